@@ -1,0 +1,5 @@
+pub mod Sets
+pub mod Literals
+pub mod Meaning
+pub mod Truth
+pub mod Examples
