@@ -1,0 +1,4 @@
+mod Rests
+mod Spans
+mod Cutting
+mod Reading

@@ -1,0 +1,7 @@
+-- Past the end stands the default.
+use mathlib.Core.Path.{sym}
+use Rattle.std.proofs.shelf.Lists.{getD-past}
+use Rattle.text.proofs.table.questions.at.Needs as need
+
+pub returns-else-i-cells : need.returns-else-i-cells
+returns-else-i-cells c = sym (getD-past (c .args .cells .now) (c .args .i) 0 (c .if-i-cells .left))
