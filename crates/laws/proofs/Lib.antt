@@ -1,0 +1,17 @@
+pub mod Sets
+pub mod Ascending
+pub mod Rules
+pub mod Formedness
+pub mod Order
+pub mod Settings
+pub mod Pigeonhole
+pub mod Exchange
+pub mod Inverse
+pub mod Tree
+pub mod Lines
+pub mod Soundness
+pub mod Completeness
+pub mod Images
+pub mod Deciding
+pub mod Calls
+pub mod Worked

@@ -1,0 +1,14 @@
+pub mod Order
+pub mod Clauses
+pub mod Cards
+pub mod Lines
+pub mod Derivations
+pub mod Store
+pub mod Checks
+pub mod Claims
+pub mod Images
+pub mod Runs
+pub mod Refuting
+pub mod Theorems
+pub mod Verdicts
+pub mod Worked
