@@ -16,7 +16,7 @@ LETTER = r"[A-Za-zα-ωΑ-Ω_]"
 NAME = re.compile(LETTER + r"[\w'₀-₉]*(?:-[\w'₀-₉]+)+")
 STRING = re.compile(r'"(?:[^"\\]|\\.)*"')
 COMMENT = re.compile(r"(?:^|(?<=\s))(?:--|//)")
-KIT = re.compile(r"use (?:Rattle\.(?:std|core)|mathlib|lib|native|Prim)[\w.+]*\.\{([^}]*)\}")
+KIT = re.compile(r"use (?:Rattle\.(?:std|core)|mathlib|lib|native|base|Prim)[\w.+]*\.\{([^}]*)\}")
 WALKS = ("Answers.antt", "Invariants.antt", "Proof.antt")
 # names that held a word of the older library
 ODD = {"getD-in": "get_or_in", "getD-mapped": "get_or_mapped", "sumBy-reverse": "sum_by_reverse"}

@@ -3,7 +3,7 @@ use Rattle.std.specs.Prelude.{◌≡◌, ℕ, ◌+◌, ◌*◌, ◌<◌, ◌≤�
 use Rattle.std.proofs.Math.Logic.{∥∥₁_elim, ∥∥₁_prop}
 use mathlib.Core.HLevel.{Π_prop, ⊥_prop, ×_prop, Unit-prop}
 use Rattle.std.proofs.Math.Bridge.{le_prop}
-use base.Stored.{CodedSet, coded_ℕ}
+use base.Stored.{Coded-set, coded_ℕ}
 use Rattle.std.specs.List.{AllByRecursion as All}
 
 -- variable v has its level (1 is outermost) and its quantifier (1 existential, 2 universal) at place v; place 0 holds 0
@@ -64,7 +64,7 @@ pub record Formed (m : Meaning) : Type 0 where
   deriving IsProp as formed_by
 
 eq_prop : (x y : ℕ) → IsProp (x ≡ y)
-eq_prop x y = CodedSet coded_ℕ x y
+eq_prop x y = Coded-set coded_ℕ x y
 
 all_prop : {X : Type 0} (P : X → Type 0) → ((x : X) → IsProp (P x)) → (xs : List X) → IsProp (All P xs)
 all_prop P p [] = Unit-prop

@@ -8,4 +8,4 @@ returns-in-Ok c S text h =
 
 pub returns-in-Err : goal.returns-in-Err
 returns-in-Err c S text h =
-    tidied_refusal c.args.out.now (omega arith) (rw c.in-Err.is at h) c.write-refusal.ensures.answers c.write-refusal.ensures.holds
+    tidied_refusal c.args.out.now (omega arith) (rw c.in-Err.is at h) c.write_refusal.ensures.answers c.write_refusal.ensures.holds

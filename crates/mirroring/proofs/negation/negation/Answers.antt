@@ -6,10 +6,10 @@ use Rattle.mirroring.proofs.negation.negation.Goals as goal
 
 pub unwrap-requires : goal.unwrap-requires
 unwrap-requires c =
-    ok_only c.from-pairs.result _ _ c.from-pairs.ensures
+    ok_only c.from_pairs.result _ _ c.from_pairs.ensures
     (faultless _ (lawful c.negations-pairs.result c.args.n c.requires (omega arith) c.negations-pairs.ensures))
 
 pub returns : goal.returns
 returns c =
     negates c.negations-pairs.result c.args.n c.requires (omega arith) c.negations-pairs.ensures (meant c.unwrap.result)
-    (rw c.unwrap.ensures at c.from-pairs.ensures)
+    (rw c.unwrap.ensures at c.from_pairs.ensures)

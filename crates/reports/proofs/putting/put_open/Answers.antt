@@ -4,4 +4,4 @@ use Rattle.reports.proofs.putting.put_open.Goals as goal
 
 pub returns : goal.returns
 unfolding open_line
-returns c = put_then c.put-all-a.ensures (put_then c.put-number-b.ensures c.put-feed.ensures)
+returns c = put_then c.put_all-a.ensures (put_then c.put_number-b.ensures c.put_feed.ensures)

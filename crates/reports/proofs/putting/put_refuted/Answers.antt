@@ -5,5 +5,5 @@ use Rattle.reports.proofs.putting.put_refuted.Goals as goal
 pub returns : goal.returns
 unfolding refuted_line
 returns c =
-    put_then c.put-all-a.ensures
-    (put_then c.put-number-b.ensures (put_then c.put-all-c.ensures (put_then c.put-number-d.ensures c.put-feed.ensures)))
+    put_then c.put_all-a.ensures
+    (put_then c.put_number-b.ensures (put_then c.put_all-c.ensures (put_then c.put_number-d.ensures c.put_feed.ensures)))

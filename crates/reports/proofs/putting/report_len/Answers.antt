@@ -4,5 +4,5 @@ use Rattle.reports.proofs.putting.report_len.Goals as goal
 
 pub returns : goal.returns
 returns c =
-    let short = report_short c.args.report c.put-report.ensures.ranges in
+    let short = report_short c.args.report c.put_report.ensures.ranges in
     record { counts = omega arith; short = omega arith }

@@ -3,5 +3,5 @@ use Rattle.rules.proofs.Outcomes.{joined_list, joined_is}
 
 pub returns : goal.returns
 returns c =
-    let is = joined_list _ _ _ _ _ c.new-set.ensures c.add-without.ensures c.add-without-2.ensures in
+    let is = joined_list _ _ _ _ _ c.new-set.ensures c.add_without.ensures c.add_without-2.ensures in
     record { clause = is; rule = joined_is _ _ _ _ _ is }

@@ -5,14 +5,14 @@ use Rattle.cards.specs.Meant.{meant}
 use Rattle.symmetry.proofs.Places.{each_from, not_each}
 use Rattle.symmetry.proofs.carrying.carries_from.Goals as goal
 
-pub returns-then-not-is-carried : goal.returns-then-not-is-carried
-returns-then-not-is-carried g c =
+pub returns-then-not-is_carried : goal.returns-then-not-is_carried
+returns-then-not-is_carried g c =
     let m = g.F.Formula.meaning c.args.f.now in
     not_each (λ C. Among m (map (act (meant c.args.card.now)) C)) m.clauses c.args.start [] c.loop-j.j (omega arith) (omega arith)
-    (λ a. false≢true (c.if-not-is-carried.ensures.1 a))
+    (λ a. false≢true (c.if-not-is_carried.ensures.1 a))
 
 pub loop-j-preserved : goal.loop-j-preserved
-loop-j-preserved g c = below_more _ _ c.loop-j.invariant (λ h. c.if-not-is-carried.ensures.0 refl)
+loop-j-preserved g c = below_more _ _ c.loop-j.invariant (λ h. c.if-not-is_carried.ensures.0 refl)
 
 pub returns : goal.returns
 returns g c =

@@ -12,20 +12,20 @@ loop-word-init c =
 pub loop-word-preserved : goal.loop-word-preserved
 loop-word-preserved c =
     let g = c.loop-word.invariant in
-    let stepped = c.in-default-step.ensures g.draft g.lawful g.stands in
-    goes_on c.args.text.now c.loop-word.words c.next-word.new.self c.loop-word.state c.step.new.self c.loop-word.literals
+    let stepped = c.in_default-step.ensures g.draft g.lawful g.stands in
+    goes_on c.args.text.now c.loop-word.words c.next_word.new.self c.loop-word.state c.step.new.self c.loop-word.literals
     c.loop-word.ends c.step.new.cells c.step.new.ends c.in-Some.word g c.in-Some.ensures.words (omega arith) (omega arith) stepped.0
     stepped.1
 
-pub outline-of-requires : goal.outline-of-requires
-outline-of-requires c =
+pub outline_of-requires : goal.outline_of-requires
+outline_of-requires c =
     let g = c.loop-word.invariant in
     let text = c.args.text.now in
     let s = c.loop-word.state in
     let ls = c.loop-word.literals in
     let es = c.loop-word.ends in
     let f = no_fault _ c.in-Ok.field-0 (c.in-Ok.ensures g.draft ls es g.stands) in
-    (holds text s ls es g.draft g.lawful g.stands f (reads text c.loop-word.words s ls es g c.in-default.ensures.words f)
+    (holds text s ls es g.draft g.lawful g.stands f (reads text c.loop-word.words s ls es g c.in_default.ensures.words f)
     ).prefix
 
 pub returns-in-Ok : goal.returns-in-Ok
@@ -36,9 +36,9 @@ returns-in-Ok c =
     let ls = c.loop-word.literals in
     let es = c.loop-word.ends in
     let f = no_fault _ c.in-Ok.field-0 (c.in-Ok.ensures g.draft ls es g.stands) in
-    let r = reads text c.loop-word.words s ls es g c.in-default.ensures.words f in
+    let r = reads text c.loop-word.words s ls es g c.in_default.ensures.words f in
     let h = holds text s ls es g.draft g.lawful g.stands f r in
-    let o = c.outline-of in
+    let o = c.outline_of in
     record {
       formula = meaning_of g.draft;
       reads = r;

@@ -16,8 +16,8 @@ returns-in-Body c =
 pub loop-i-preserved : goal.loop-i-preserved
 loop-i-preserved c =
     c.loop-i.invariant
-    ∙ front_more c.args.text.now c.loop-i.i (region_of c.loop-i.region) (region_of c.next-region-region.result)
-    c.loop-i-test.true c.next-region-region.ensures (λ e. c.in-default.not-Body (is_body _ e))
+    ∙ front_more c.args.text.now c.loop-i.i (region_of c.loop-i.region) (region_of c.next_region-region.result)
+    c.loop-i-test.true c.next_region-region.ensures (λ e. c.in_default.not-Body (is_body _ e))
 
 pub returns : goal.returns
 returns c =

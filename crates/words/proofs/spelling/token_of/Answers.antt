@@ -8,5 +8,5 @@ pub returns-in-45 : goal.returns-in-45
 returns-in-45 c =
     let w = c.args.word.now in
     let e : get_or w 0 0 ≡ 45 = search rules in
-    rw take_rest at c.negative-of.ensures
+    rw take_rest at c.negative_of.ensures
     ∙ sym (cond-true (eqb (get_or w 0 0) 45) (negated (natural (drop 1 w))) (counted w (natural w)) (eq-eqb (get_or w 0 0) 45 e))

@@ -4,4 +4,4 @@ use Rattle.writer.proofs.levels.put_block.Goals as goal
 
 pub returns : goal.returns
 returns g c =
-    put_then (put_as (ap (λ b. b ∷ []) c.letter.ensures) c.put-a.ensures) (put_then c.put-variables-b.ensures (put_then c.put-space-c.ensures c.put-end.ensures))
+    put_then (put_as (ap (λ b. b ∷ []) c.letter.ensures) c.put-a.ensures) (put_then c.put_variables-b.ensures (put_then c.put_space-c.ensures c.put_end.ensures))

@@ -6,7 +6,7 @@ use Rattle.writer.proofs.levels.put_blocks.Goals as goal
 pub loop-i-preserved : goal.loop-i-preserved
 loop-i-preserved g c =
     let m = g.F.Formula.meaning c.args.f.now in
-    put_count (block_line m) (greatest m.levels) c.loop-i.i (omega arith) c.loop-i.invariant c.put-block-at.ensures
+    put_count (block_line m) (greatest m.levels) c.loop-i.i (omega arith) c.loop-i.invariant c.put_block-at.ensures
 
 pub returns : goal.returns
 returns g c =

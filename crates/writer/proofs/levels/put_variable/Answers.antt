@@ -9,4 +9,4 @@ pub returns : goal.returns
 returns g c =
     let level = level_of (g.F.Formula.meaning c.args.f.now) c.args.v in
     put_as (sym (cond-true (eqb level c.args.k) (variable_text c.args.v) [] (eq-eqb level c.args.k (omega arith))))
-    (put_then c.put-space-next.ensures c.put-number.ensures)
+    (put_then c.put_space-next.ensures c.put_number.ensures)

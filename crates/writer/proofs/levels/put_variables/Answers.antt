@@ -8,7 +8,7 @@ use Rattle.writer.proofs.levels.put_variables.Goals as goal
 pub loop-i-preserved : goal.loop-i-preserved
 loop-i-preserved g c =
     let m = g.F.Formula.meaning c.args.f.now in
-    put_count (λ v. cond (eqb (level_of m v) c.args.k) (variable_text v) []) m.n c.loop-i.i (omega arith) c.loop-i.invariant c.put-variable-at.ensures
+    put_count (λ v. cond (eqb (level_of m v) c.args.k) (variable_text v) []) m.n c.loop-i.i (omega arith) c.loop-i.invariant c.put_variable-at.ensures
 
 pub returns : goal.returns
 returns g c =

@@ -8,4 +8,4 @@ returns-then-k-lt10 t c = put_as (sym (decimal_digit c.args.k (omega arith))) c.
 
 pub returns : goal.returns
 returns t c =
-    put_as (sym (decimal_step c.args.k (omega arith) (omega arith))) (put_then c.put-number-next.ensures c.put-2.ensures)
+    put_as (sym (decimal_step c.args.k (omega arith) (omega arith))) (put_then c.put_number-next.ensures c.put-2.ensures)

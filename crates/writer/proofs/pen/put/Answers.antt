@@ -12,5 +12,5 @@ returns c =
             | then-at-out w ↦ w.out-is
             | else-at-out w ↦ w.out-is ∙ sym (set_past c.args.out.now c.args.at c.args.byte (omega arith))
           ];
-      place = c.saturating-add.ensures;
+      place = c.saturating_add.ensures;
     }

@@ -6,7 +6,7 @@ use Rattle.writer.proofs.whole.fill_formula.Goals as goal
 
 pub returns : goal.returns
 returns g c =
-    let e = laid_by c.requires c.put-formula.ensures in
+    let e = laid_by c.requires c.put_formula.ensures in
     let m = g.F.Formula.meaning c.args.f.now in
     record {
       counts = e.0;

@@ -4,4 +4,4 @@ use Rattle.writer.proofs.whole.put_formula.Goals as goal
 
 pub returns : goal.returns
 unfolding written
-returns g c = put_then c.put-header-a.ensures (put_then c.put-blocks-b.ensures c.put-clauses.ensures)
+returns g c = put_then c.put_header-a.ensures (put_then c.put_blocks-b.ensures c.put_clauses.ensures)

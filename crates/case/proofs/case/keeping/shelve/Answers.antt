@@ -9,10 +9,10 @@ returns g c =
     subst (λ C. Keeps (g.S.Shelf.meaning c.args.shelf.now) C c.keep.result (g.S.Shelf.meaning c.keep.new.self))
     (front_members c.args.clause.now.words c.requires _ _ _ (length-replicate {A = ℕ} 512 0) c.codes-len.ensures.count c.codes-len.ensures.written _ c.front.ensures) c.keep.ensures
 
-pub slice-bounds-cells-end : goal.slice-bounds-cells-end
-slice-bounds-cells-end g c =
+pub slice_bounds-cells-end : goal.slice_bounds-cells-end
+slice_bounds-cells-end g c =
     within_cells c.args.clause.now.words c.requires _ _ _ (length-replicate {A = ℕ} 512 0) c.codes-len.ensures.count c.codes-len.ensures.written
 
-pub slice-bounds-front-end : goal.slice-bounds-front-end
-slice-bounds-front-end g c =
+pub slice_bounds-front-end : goal.slice_bounds-front-end
+slice_bounds-front-end g c =
     counted_front c.args.clause.now.words c.requires _ _ _ (length-replicate {A = ℕ} 512 0) c.codes-len.ensures.count c.codes-len.ensures.written

@@ -5,8 +5,8 @@ use Rattle.cells.proofs.Rooms.{room_is}
 use Rattle.cells.proofs.Short.{proper_short}
 use Rattle.cells.proofs.cell_shelf.CellShelf.push.Goals as goal
 
-pub write-line-requires : goal.write-line-requires
-write-line-requires c =
+pub write_line-requires : goal.write_line-requires
+write_line-requires c =
     let same = ap length c.codes.ensures in
     record {
       short = omega (arith, proper_short (proper_out c.args.clause.proper));

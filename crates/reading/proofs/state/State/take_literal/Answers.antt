@@ -12,7 +12,7 @@ returns c t number is some es d lawful stands =
     let code : c.if-negated.code ≡ cond c.args.negated (2 * c.args.v + 1) (2 * c.args.v) =
     elim c.if-negated.branch [ then-negated w ↦ simp w.if-negated.true w.code-is | else-negated w ↦ simp w.if-negated.false w.code-is ] in (
       literal_fits (sizes cells es) d at t c.args.negated number (λ e. some (sym is ∙ e)) (omega (arith, c.if-self.false, stands.clauses, stands.m))
-          (sym (c.if-is-full.ensures.says d cells es refl stands)) (sym (c.if-is-early-2.ensures d cells es stands))
+          (sym (c.if-is_full.ensures.says d cells es refl stands)) (sym (c.if-is_early-2.ensures d cells es stands))
           (omega (arith, c.if-v-self.false, is, stands.n)),
       with_literal c.args.self.now _ cells es
           (record { stage = refl; n = refl; m = refl; levels = refl; quantifiers = refl; blocks = refl; latest_is = refl; vacant = refl }) t d at

@@ -4,5 +4,5 @@ use Rattle.rows.proofs.row_shelf.RowShelf.literals.Goals as goal
 
 pub returns : goal.returns
 returns c =
-    row_read c.args.self.now.words.now c.from-words.result.words c.args.self.now.count c.args.line c.requires
-    (c.from-words.ensures ∙ c.copy-from-slice.ensures.after)
+    row_read c.args.self.now.words.now c.from_words.result.words c.args.self.now.count c.args.line c.requires
+    (c.from_words.ensures ∙ c.copy_from_slice.ensures.after)

@@ -2,7 +2,7 @@ use Rattle.rows.proofs.Copies.{good_in, copied_good, copied_shelf}
 use Rattle.rows.proofs.row_shelf.RowShelf.push.Goals as goal
 
 pub invariant-of-self : goal.invariant-of-self
-invariant-of-self c = copied_good _ _ _ _ (good_in c.args.self.now) c.requires.room c.args.set.now.long c.copy-row.ensures.copied c.requires.few c.requires.proper
+invariant-of-self c = copied_good _ _ _ _ (good_in c.args.self.now) c.requires.room c.args.set.now.long c.copy_row.ensures.copied c.requires.few c.requires.proper
 
 pub returns : goal.returns
-returns c = copied_shelf _ _ _ _ (good_in c.args.self.now) c.requires.room c.args.set.now.long c.copy-row.ensures.copied
+returns c = copied_shelf _ _ _ _ (good_in c.args.self.now) c.requires.room c.args.set.now.long c.copy_row.ensures.copied

@@ -4,4 +4,4 @@ use Rattle.sets.proofs.Elements.{inserted}
 use Rattle.sets.proofs.set.LiteralSet.add.Goals as goal
 
 pub returns : goal.returns
-returns c = ap members c.set-bit.ensures ∙ inserted c.args.self.now.words c.args.code c.args.self.now.long c.requires
+returns c = ap members c.set_bit.ensures ∙ inserted c.args.self.now.words c.args.code c.args.self.now.long c.requires

@@ -4,4 +4,4 @@ use Rattle.sets.proofs.Sorted.{no_members}
 use Rattle.sets.proofs.set.LiteralSet.new.Goals as goal
 
 pub returns : goal.returns
-returns c = ap members (c.from-words.ensures ∙ c.blank.ensures) ∙ no_members
+returns c = ap members (c.from_words.ensures ∙ c.blank.ensures) ∙ no_members

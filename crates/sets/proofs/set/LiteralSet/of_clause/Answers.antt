@@ -8,14 +8,14 @@ use Rattle.sets.proofs.set.LiteralSet.of_clause.Goals as goal
 pub add-requires : goal.add-requires
 add-requires g c =
     subst (Code 512) (sym c.literal.ensures)
-    (clause_code (g.F.Formula.meaning c.args.f.now) (g.F.Formula.formed c.args.f.now) c.args.j c.loop-i.i (omega (arith, c.clause-len-i-end.ensures)))
+    (clause_code (g.F.Formula.meaning c.args.f.now) (g.F.Formula.formed c.args.f.now) c.args.j c.loop-i.i (omega (arith, c.clause_len-i-end.ensures)))
 
 pub loop-i-preserved : goal.loop-i-preserved
 loop-i-preserved g c =
-    sorted_more (clause_of (g.F.Formula.meaning c.args.f.now) c.args.j) _ _ c.loop-i.i _ (omega (arith, c.clause-len-i-end.ensures)) c.literal.ensures
+    sorted_more (clause_of (g.F.Formula.meaning c.args.f.now) c.args.j) _ _ c.loop-i.i _ (omega (arith, c.clause_len-i-end.ensures)) c.literal.ensures
     c.loop-i.invariant c.add.ensures
 
 pub returns : goal.returns
 returns g c =
     c.loop-i.invariant
-    ∙ ap sorted (take_all c.loop-i.i (clause_of (g.F.Formula.meaning c.args.f.now) c.args.j) (omega (arith, c.clause-len-i-end.ensures)))
+    ∙ ap sorted (take_all c.loop-i.i (clause_of (g.F.Formula.meaning c.args.f.now) c.args.j) (omega (arith, c.clause_len-i-end.ensures)))

@@ -3,9 +3,9 @@ use mathlib.Core.Bool.{false≢true}
 use Rattle.sets.proofs.Pairs.{found, none_found}
 use Rattle.sets.proofs.set.LiteralSet.tautological.Goals as goal
 
-pub returns-then-both-signs : goal.returns-then-both-signs
-returns-then-both-signs c = (
-  λ _. found c.args.self.now.words c.loop-k.k (omega arith) (omega arith) c.if-both-signs.ensures,
+pub returns-then-both_signs : goal.returns-then-both_signs
+returns-then-both_signs c = (
+  λ _. found c.args.self.now.words c.loop-k.k (omega arith) (omega arith) c.if-both_signs.ensures,
   λ _. refl,
 )
 

@@ -3,12 +3,12 @@ use Rattle.std.proofs.lemmas.List.Sums.{prefix_len-drop_yes, prefix_len-drop_no,
 use Rattle.words.specs.Words.{blank}
 use Rattle.words.proofs.reader.read.blank_run.Goals as goal
 
-pub returns-then-not-is-blank : goal.returns-then-not-is-blank
-returns-then-not-is-blank c =
+pub returns-then-not-is_blank : goal.returns-then-not-is_blank
+returns-then-not-is_blank c =
     record {
       value = omega (
         arith,
-        prefix_len-drop_no blank c.args.s.now c.loop-i.i 0 c.loop-i-test.true (sym c.if-not-is-blank.ensures),
+        prefix_len-drop_no blank c.args.s.now c.loop-i.i 0 c.loop-i-test.true (sym c.if-not-is_blank.ensures),
       );
       bound = omega arith;
     }
@@ -17,7 +17,7 @@ pub loop-i-preserved : goal.loop-i-preserved
 loop-i-preserved c =
     omega (
       arith,
-      prefix_len-drop_yes blank c.args.s.now c.loop-i.i 0 c.loop-i-test.true (sym c.if-not-is-blank.ensures),
+      prefix_len-drop_yes blank c.args.s.now c.loop-i.i 0 c.loop-i-test.true (sym c.if-not-is_blank.ensures),
     )
 
 pub returns : goal.returns

@@ -3,13 +3,13 @@ use Rattle.std.proofs.lemmas.List.Sums.{prefix_len-drop_yes, prefix_len-drop_no,
 use Rattle.words.specs.Words.{blank}
 use Rattle.words.proofs.reader.read.solid_run.Goals as goal
 
-pub returns-then-is-blank : goal.returns-then-is-blank
-returns-then-is-blank c =
+pub returns-then-is_blank : goal.returns-then-is_blank
+returns-then-is_blank c =
     record {
       value = omega (
         arith,
         prefix_len-drop_no (λ b. not (blank b)) c.args.s.now c.loop-i.i 0 c.loop-i-test.true
-            (ap not (sym c.if-is-blank.ensures)),
+            (ap not (sym c.if-is_blank.ensures)),
       );
       bound = omega arith;
     }
@@ -19,7 +19,7 @@ loop-i-preserved c =
     omega (
       arith,
       prefix_len-drop_yes (λ b. not (blank b)) c.args.s.now c.loop-i.i 0 c.loop-i-test.true
-          (ap not (sym c.if-is-blank.ensures)),
+          (ap not (sym c.if-is_blank.ensures)),
     )
 
 pub returns : goal.returns
