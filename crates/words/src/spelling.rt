@@ -83,7 +83,7 @@ pub fn token_of(word: &[u8]) -> Token
     ensures { result ≡ token_of word.now }
 {
     match word {
-        [b'_', digits @ ..] => negative_of(digits),
+        [b'-', digits @ ..] => negative_of(digits),
         _ => unsigned_of(word),
     }
 }

@@ -14,7 +14,7 @@ fn put_sign(out: &mut [u8], at: usize, literal: u16) -> usize
     if literal % 2 == 0 {
         return at;
     }
-    put(out, at, b'_')
+    put(out, at, b'-')
 }
 
 // Puts a literal and a space.

@@ -12,7 +12,7 @@ returns c =
     record {
       words = read_some c.args.text.now c.args.at c.split_at.ensures.back c.blank_run-skip.ensures.value
           c.split_at-2.ensures.back c.solid_run-n.ensures.value c.split_at-3.ensures.front c.token_of-token.ensures
-          c.split_at-3.ensures.front-len c.if-n-eq0.false;
+          c.split_at-3.ensures.front_len c.if-n-eq0.false;
       place = omega arith;
       within = omega arith;
     }
