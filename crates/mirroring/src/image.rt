@@ -14,8 +14,8 @@ use writer::WriteFault;
 
 // Writes a formula with every literal negated.
 pub(crate) fn write_image<F: Formula + Drop>(f: F, out: &mut [u8]) -> Result<usize, WriteFault>
-    ensures answers { result ≡ answer (written (negated (meaning f))) out.old }
-    ensures holds { out.new ≡ filled (written (negated (meaning f))) out.old }
+    ensures answers { result ≡ answer (written (negated (F.meaning f))) out.old }
+    ensures holds { out.new ≡ filled (written (negated (F.meaning f))) out.old }
 {
     let card = negation(f.variable_count());
     let image = image_under(f, card);
@@ -24,8 +24,8 @@ pub(crate) fn write_image<F: Formula + Drop>(f: F, out: &mut [u8]) -> Result<usi
 
 // The image under a card that negates every variable; such a card is always admissible.
 fn image_under<F: Formula + Drop>(f: F, card: Card) -> Image<F>
-    requires { Negates (meaning f).n (meant card) }
-    ensures { formula_in meaning result ≡ negated (meaning f) }
+    requires { Negates (F.meaning f).n (meant card) }
+    ensures { formula_in F.meaning result ≡ negated (F.meaning f) }
 {
     Image::new(f, card).unwrap()
 }

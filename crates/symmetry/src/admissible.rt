@@ -9,14 +9,14 @@ use formula::Formula;
 
 // Whether the card fixes what is no variable of the formula, and keeps each variable's level.
 pub fn is_admissible<F: Formula>(f: &F, card: &Card) -> bool
-    ensures { (result ≡ true) ↔ Admissible (meaning f.now) (meant card.now) }
+    ensures { (result ≡ true) ↔ Admissible (F.meaning f.now) (meant card.now) }
 {
     fixes_others(f, card) && keeps_levels(f, card)
 }
 
 // Whether the card fixes what is no variable of the formula.
 fn fixes_others<F: Formula>(f: &F, card: &Card) -> bool
-    ensures { (result ≡ true) ↔ FixesOthers (meaning f.now) (meant card.now) }
+    ensures { (result ≡ true) ↔ FixesOthers (F.meaning f.now) (meant card.now) }
 {
     for v in f.variable_count() + 1..513 {
         if image_of(card, v) as usize != 2 * v {
@@ -28,7 +28,7 @@ fn fixes_others<F: Formula>(f: &F, card: &Card) -> bool
 
 // Whether the image of each variable is over one of the same level.
 fn keeps_levels<F: Formula>(f: &F, card: &Card) -> bool
-    ensures { (result ≡ true) ↔ KeepsLevels (meaning f.now) (meant card.now) }
+    ensures { (result ≡ true) ↔ KeepsLevels (F.meaning f.now) (meant card.now) }
 {
     for v in 1..f.variable_count() + 1 {
         if !keeps_level(f, card, v) {
@@ -41,7 +41,7 @@ fn keeps_levels<F: Formula>(f: &F, card: &Card) -> bool
 // Whether the image of v is over a variable of the same level.
 fn keeps_level<F: Formula>(f: &F, card: &Card, v: usize) -> bool
     requires { v ≤ 512 }
-    ensures { (result ≡ true) ↔ KeepsLevel (meaning f.now) (meant card.now) v }
+    ensures { (result ≡ true) ↔ KeepsLevel (F.meaning f.now) (meant card.now) v }
 {
     f.level((image_of(card, v) / 2) as usize) == f.level(v)
 }

@@ -9,7 +9,7 @@ use sets::LiteralSet;
 
 // Whether some clause of the formula has the same literals.
 pub fn is_among<F: Formula>(f: &F, codes: &[u16]) -> bool
-    ensures { (result ≡ true) ↔ Among (meaning f.now) codes.now }
+    ensures { (result ≡ true) ↔ Among (F.meaning f.now) codes.now }
 {
     match set_for(f, codes) {
         Some(set) => has_clause(f, &set),
@@ -19,7 +19,7 @@ pub fn is_among<F: Formula>(f: &F, codes: &[u16]) -> bool
 
 // The set to look up for a list of codes; none where some code is no literal, so that no clause has it.
 fn set_for<F: Formula>(f: &F, codes: &[u16]) -> Option<LiteralSet>
-    ensures { MatchOption result (Among (meaning f.now) codes.now → ⊥) (λ s. Among (meaning f.now) (members s.words) ↔ Among (meaning f.now) codes.now) }
+    ensures { MatchOption result (Among (F.meaning f.now) codes.now → ⊥) (λ s. Among (F.meaning f.now) (members s.words) ↔ Among (F.meaning f.now) codes.now) }
 {
     LiteralSet::of(codes)
 }

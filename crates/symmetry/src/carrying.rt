@@ -14,14 +14,14 @@ use sets::LiteralSet;
 
 // Whether the image of every clause is among the clauses.
 pub fn carries<F: Formula>(f: &F, card: &Card) -> bool
-    ensures { (result ≡ true) ↔ Carries (meaning f.now) (meant card.now) }
+    ensures { (result ≡ true) ↔ Carries (F.meaning f.now) (meant card.now) }
 {
     carries_from(f, card, 0)
 }
 
 // Whether the images of the clauses from number start on are among the clauses.
 fn carries_from<F: Formula>(f: &F, card: &Card, start: usize) -> bool
-    ensures { (result ≡ true) ↔ CarriesFrom (meaning f.now) (meant card.now) start }
+    ensures { (result ≡ true) ↔ CarriesFrom (F.meaning f.now) (meant card.now) start }
 {
     for j in start..f.clause_count() {
         if !is_carried(f, card, j) {
@@ -33,7 +33,7 @@ fn carries_from<F: Formula>(f: &F, card: &Card, start: usize) -> bool
 
 // Whether the image of clause j is among the clauses.
 fn is_carried<F: Formula>(f: &F, card: &Card, j: usize) -> bool
-    ensures { (result ≡ true) ↔ Among (meaning f.now) (map (act (meant card.now)) (clause_of (meaning f.now) j)) }
+    ensures { (result ≡ true) ↔ Among (F.meaning f.now) (map (act (meant card.now)) (clause_of (F.meaning f.now) j)) }
 {
     let image = image_set(f, card, j);
     has_clause(f, &image)
@@ -41,7 +41,7 @@ fn is_carried<F: Formula>(f: &F, card: &Card, j: usize) -> bool
 
 // The set of the images of the literals of clause j.
 fn image_set<F: Formula>(f: &F, card: &Card, j: usize) -> LiteralSet
-    ensures { members result.words ≡ sorted (map (act (meant card.now)) (clause_of (meaning f.now) j)) }
+    ensures { members result.words ≡ sorted (map (act (meant card.now)) (clause_of (F.meaning f.now) j)) }
 {
     let mut set = LiteralSet::new();
     for i in 0..f.clause_len(j) {
@@ -52,7 +52,7 @@ fn image_set<F: Formula>(f: &F, card: &Card, j: usize) -> LiteralSet
 
 // The image of the literal at place i of clause j.
 fn image_at<F: Formula>(f: &F, card: &Card, j: usize, i: usize) -> u16
-    ensures { result ≡ act (meant card.now) (literal_of (meaning f.now) j i) }
+    ensures { result ≡ act (meant card.now) (literal_of (F.meaning f.now) j i) }
 {
     card.image(f.literal(j, i))
 }

@@ -12,14 +12,14 @@ use formula::Formula;
 
 // Whether the card is admissible, and takes clauses to clauses.
 pub fn is_symmetry<F: Formula>(f: &F, card: &Card) -> bool
-    ensures { (result ≡ true) ↔ Symmetry (meaning f.now) (meant card.now) }
+    ensures { (result ≡ true) ↔ Symmetry (F.meaning f.now) (meant card.now) }
 {
     is_admissible(f, card) && carries(f, card)
 }
 
 // That the card is a symmetry, or the first reason why it is none.
 pub fn check_symmetry<F: Formula>(f: &F, card: &Card) -> Result<(), SymmetryFault>
-    ensures { MatchResult result (λ _. Symmetry (meaning f.now) (meant card.now)) (Fault (meaning f.now) (meant card.now)) }
+    ensures { MatchResult result (λ _. Symmetry (F.meaning f.now) (meant card.now)) (Fault (F.meaning f.now) (meant card.now)) }
 {
     if !is_admissible(f, card) {
         return Err(SymmetryFault::Level);

@@ -10,7 +10,7 @@ use sets::LiteralSet;
 
 // Whether some clause has the literals of the set.
 pub(crate) fn has_clause<F: Formula>(f: &F, set: &LiteralSet) -> bool
-    ensures { (result ≡ true) ↔ Among (meaning f.now) (members set.now.words) }
+    ensures { (result ≡ true) ↔ Among (F.meaning f.now) (members set.now.words) }
 {
     for j in 0..f.clause_count() {
         if is_clause(f, set, j) {
@@ -22,7 +22,7 @@ pub(crate) fn has_clause<F: Formula>(f: &F, set: &LiteralSet) -> bool
 
 // Whether clause j has the literals of the set.
 fn is_clause<F: Formula>(f: &F, set: &LiteralSet, j: usize) -> bool
-    ensures { (result ≡ true) ↔ (members set.now.words ≡ sorted (clause_of (meaning f.now) j)) }
+    ensures { (result ≡ true) ↔ (members set.now.words ≡ sorted (clause_of (F.meaning f.now) j)) }
 {
     let clause = LiteralSet::of_clause(f, j);
     set.same(&clause)

@@ -28,7 +28,7 @@ fn put_literal(out: &mut [u8], at: usize, literal: u16) -> usize
 
 // Puts the literals of clause j.
 fn put_literals<F: Formula>(out: &mut [u8], start: usize, f: &F, j: usize) -> usize
-    ensures { Put (flat_map literal_text (clause_of (meaning f.now) j)) out.old start out.new result }
+    ensures { Put (flat_map literal_text (clause_of (F.meaning f.now) j)) out.old start out.new result }
 {
     let mut at = start;
     for i in 0..f.clause_len(j) {
@@ -39,7 +39,7 @@ fn put_literals<F: Formula>(out: &mut [u8], start: usize, f: &F, j: usize) -> us
 
 // Puts the line of clause j: its literals and 0.
 fn put_clause<F: Formula>(out: &mut [u8], at: usize, f: &F, j: usize) -> usize
-    ensures { Put (clause_line (clause_of (meaning f.now) j)) out.old at out.new result }
+    ensures { Put (clause_line (clause_of (F.meaning f.now) j)) out.old at out.new result }
 {
     let next = put_literals(out, at, f, j);
     put_end(out, next)
@@ -47,7 +47,7 @@ fn put_clause<F: Formula>(out: &mut [u8], at: usize, f: &F, j: usize) -> usize
 
 // Puts a line for each clause.
 pub(crate) fn put_clauses<F: Formula>(out: &mut [u8], start: usize, f: &F) -> usize
-    ensures { Put (flat_map clause_line (meaning f.now).clauses) out.old start out.new result }
+    ensures { Put (flat_map clause_line (F.meaning f.now).clauses) out.old start out.new result }
 {
     let mut at = start;
     for j in 0..f.clause_count() {

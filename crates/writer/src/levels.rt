@@ -11,7 +11,7 @@ use formula::Formula;
 
 // The number of the levels.
 fn depth<F: Formula>(f: &F) -> usize
-    ensures { result ≡ greatest (meaning f.now).levels }
+    ensures { result ≡ greatest (F.meaning f.now).levels }
 {
     let mut most = 0;
     for v in 0..f.variable_count() + 1 {
@@ -25,7 +25,7 @@ fn depth<F: Formula>(f: &F) -> usize
 
 // The first variable of level k; 0 where there is none.
 fn first_variable<F: Formula>(f: &F, k: usize) -> usize
-    ensures { result ≡ slice_index (at_level (meaning f.now) k) 0 }
+    ensures { result ≡ slice_index (at_level (F.meaning f.now) k) 0 }
 {
     for v in 1..f.variable_count() + 1 {
         if f.level(v) as usize == k {
@@ -37,7 +37,7 @@ fn first_variable<F: Formula>(f: &F, k: usize) -> usize
 
 // The letter e or a of level k.
 fn letter<F: Formula>(f: &F, k: usize) -> u8
-    ensures { result ≡ letter_byte (quantifier_of (meaning f.now) (slice_index (at_level (meaning f.now) k) 0)) }
+    ensures { result ≡ letter_byte (quantifier_of (F.meaning f.now) (slice_index (at_level (F.meaning f.now) k) 0)) }
 {
     if f.quantifier(first_variable(f, k)) == 1 {
         b'e'
@@ -48,7 +48,7 @@ fn letter<F: Formula>(f: &F, k: usize) -> u8
 
 // Puts variable v, if it is of level k.
 fn put_variable<F: Formula>(out: &mut [u8], at: usize, f: &F, k: usize, v: usize) -> usize
-    ensures { Put (if nat_eq (level_of (meaning f.now) v) k then variable_text v else []) out.old at out.new result }
+    ensures { Put (if nat_eq (level_of (F.meaning f.now) v) k then variable_text v else []) out.old at out.new result }
 {
     if f.level(v) as usize != k {
         return at;
@@ -59,7 +59,7 @@ fn put_variable<F: Formula>(out: &mut [u8], at: usize, f: &F, k: usize, v: usize
 
 // Puts the variables of level k, in ascending order.
 fn put_variables<F: Formula>(out: &mut [u8], start: usize, f: &F, k: usize) -> usize
-    ensures { Put (flat_map variable_text (at_level (meaning f.now) k)) out.old start out.new result }
+    ensures { Put (flat_map variable_text (at_level (F.meaning f.now) k)) out.old start out.new result }
 {
     let mut at = start;
     for i in 0..f.variable_count() {
@@ -70,7 +70,7 @@ fn put_variables<F: Formula>(out: &mut [u8], start: usize, f: &F, k: usize) -> u
 
 // Puts the line of level k: its letter, its variables and 0.
 fn put_block<F: Formula>(out: &mut [u8], at: usize, f: &F, k: usize) -> usize
-    ensures { Put (block_line (meaning f.now) k) out.old at out.new result }
+    ensures { Put (block_line (F.meaning f.now) k) out.old at out.new result }
 {
     let a = put(out, at, letter(f, k));
     let b = put_variables(out, a, f, k);
@@ -80,7 +80,7 @@ fn put_block<F: Formula>(out: &mut [u8], at: usize, f: &F, k: usize) -> usize
 
 // Puts a line for each level, from the outermost on.
 pub(crate) fn put_blocks<F: Formula>(out: &mut [u8], start: usize, f: &F) -> usize
-    ensures { Put (flat_map (block_line (meaning f.now)) (range_with_len 1 (greatest (meaning f.now).levels))) out.old start out.new result }
+    ensures { Put (flat_map (block_line (F.meaning f.now)) (range_with_len 1 (greatest (F.meaning f.now).levels))) out.old start out.new result }
 {
     let mut at = start;
     for i in 0..depth(f) {

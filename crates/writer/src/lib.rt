@@ -22,9 +22,9 @@ use whole::{fill_formula, put_formula};
 
 // Writes the text of a formula into a buffer; answers how long it is. A buffer that is too short stays as it was.
 pub fn write<F: Formula>(f: &F, out: &mut [u8]) -> Result<usize, WriteFault>
-    ensures answers { result ≡ answer (written (meaning f.now)) out.old }
-    ensures holds { out.new ≡ filled (written (meaning f.now)) out.old }
-    ensures reads_back { ReadsBack result out.new (meaning f.now) }
+    ensures answers { result ≡ answer (written (F.meaning f.now)) out.old }
+    ensures holds { out.new ≡ filled (written (F.meaning f.now)) out.old }
+    ensures reads_back { ReadsBack result out.new (F.meaning f.now) }
 {
     // over no buffer at all, the text is only counted
     if out.len() < put_formula(&mut [], 0, f) {

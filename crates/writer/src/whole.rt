@@ -12,7 +12,7 @@ use formula::Formula;
 
 // Puts the header p cnf n m.
 fn put_header<F: Formula>(out: &mut [u8], at: usize, f: &F) -> usize
-    ensures { Put (header_line (meaning f.now)) out.old at out.new result }
+    ensures { Put (header_line (F.meaning f.now)) out.old at out.new result }
 {
     let a = put_all(out, at, b"p cnf ");
     let b = put_number(out, a, f.variable_count());
@@ -23,7 +23,7 @@ fn put_header<F: Formula>(out: &mut [u8], at: usize, f: &F) -> usize
 
 // Puts the text of a formula.
 pub(crate) fn put_formula<F: Formula>(out: &mut [u8], at: usize, f: &F) -> usize
-    ensures { Put (written (meaning f.now)) out.old at out.new result }
+    ensures { Put (written (F.meaning f.now)) out.old at out.new result }
 {
     let a = put_header(out, at, f);
     let b = put_blocks(out, a, f);
@@ -32,10 +32,10 @@ pub(crate) fn put_formula<F: Formula>(out: &mut [u8], at: usize, f: &F) -> usize
 
 // Puts the text of a formula at the start of a buffer that is long enough; answers its length.
 pub(crate) fn fill_formula<F: Formula>(f: &F, out: &mut [u8]) -> usize
-    requires { length (written (meaning f.now)) ≤ length out.old }
-    ensures counts { result ≡ length (written (meaning f.now)) }
-    ensures holds { out.new ≡ laid (written (meaning f.now)) out.old }
-    ensures reads { ReadsAs (take result out.new) (meaning f.now) }
+    requires { length (written (F.meaning f.now)) ≤ length out.old }
+    ensures counts { result ≡ length (written (F.meaning f.now)) }
+    ensures holds { out.new ≡ laid (written (F.meaning f.now)) out.old }
+    ensures reads { ReadsAs (take result out.new) (F.meaning f.now) }
 {
     put_formula(out, 0, f)
 }

@@ -10,28 +10,28 @@ use formula::Formula;
 impl<F: Formula> Image<F> {
     // How many clauses there are.
     pub(super) fn count(&self) -> usize
-        ensures { result ≡ length (formula_in meaning self.now).clauses }
+        ensures { result ≡ length (formula_in F.meaning self.now).clauses }
     {
         self.below.clause_count()
     }
 
     // How many literals clause j lists.
     pub(super) fn len(&self, j: usize) -> usize
-        ensures { result ≡ length (clause_of (formula_in meaning self.now) j) }
+        ensures { result ≡ length (clause_of (formula_in F.meaning self.now) j) }
     {
         self.below.clause_len(j)
     }
 
     // The code at place i of clause j.
     pub(super) fn at(&self, j: usize, i: usize) -> u16
-        ensures { result ≡ literal_of (formula_in meaning self.now) j i }
+        ensures { result ≡ literal_of (formula_in F.meaning self.now) j i }
     {
         self.image_within(self.below.literal(j, i))
     }
 
     // The image of a literal, or the literal where the image is over no variable of the formula.
     fn image_within(&self, code: u16) -> u16
-        ensures { result ≡ act_within (meaning self.now.below).n (meant self.now.card) code }
+        ensures { result ≡ act_within (F.meaning self.now.below).n (meant self.now.card) code }
     {
         let image = self.card.image(code);
         if (image / 2) as usize <= self.below.variable_count() {

@@ -13,7 +13,7 @@ use symmetry::is_admissible;
 impl<F: Formula> Image<F> {
     // The image of the formula below, or that formula back where the card is not admissible for it.
     pub fn new(below: F, card: Card) -> Result<Image<F>, Inadmissible<F>>
-        ensures { MatchResult result (λ x. Admissible (meaning below) (meant card) × (formula_in meaning x ≡ imaged (meant card) (meaning below))) (λ e. (Admissible (meaning below) (meant card) → ⊥) × (e.below ≡ below)) }
+        ensures { MatchResult result (λ x. Admissible (F.meaning below) (meant card) × (formula_in F.meaning x ≡ imaged (meant card) (F.meaning below))) (λ e. (Admissible (F.meaning below) (meant card) → ⊥) × (e.below ≡ below)) }
     {
         if is_admissible(&below, &card) {
             Ok(Image::through(below, card))
@@ -24,8 +24,8 @@ impl<F: Formula> Image<F> {
 
     // The formula seen through an admissible card.
     fn through(below: F, card: Card) -> Image<F>
-        requires { Admissible (meaning below) (meant card) }
-        ensures { formula_in meaning result ≡ imaged (meant card) (meaning below) }
+        requires { Admissible (F.meaning below) (meant card) }
+        ensures { formula_in F.meaning result ≡ imaged (meant card) (F.meaning below) }
     {
         Image { below, card }
     }

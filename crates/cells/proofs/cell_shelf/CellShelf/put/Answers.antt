@@ -3,5 +3,5 @@ use Rattle.std.proofs.Common.{arith}
 use Rattle.cells.proofs.Standing.{past}
 use Rattle.cells.proofs.cell_shelf.CellShelf.put.Goals as goal
 
-pub invariant-of-self : goal.invariant-of-self
-invariant-of-self c = past c.args.self.now _ _ (omega arith)
+pub invariant_of-self : goal.invariant_of-self
+invariant_of-self c = past c.args.self.now _ _ (omega arith)

@@ -12,6 +12,6 @@ lay_word-n-requires c = record { word = omega arith; few = few _ _ _ _ _ c.loop-
 pub loop-i-preserved : goal.loop-i-preserved
 loop-i-preserved c =
     elim c.if-self-i-ne0.branch [
-      | then-self-i-ne0 w ↦ moved _ _ _ _ _ _ _ _ refl w.n_is w.out-is (w.lay_word-n.ensures _ c.loop-i.invariant)
-      | else-self-i-ne0 w ↦ zero_word _ _ c.loop-i.i _ _ _ _ w.if-self-i-ne0.false w.n_is w.out-is c.loop-i.invariant
+      | then-self-i-ne0 w ↦ moved _ _ _ _ _ _ _ _ refl w.n-is w.out-is (w.lay_word-n.ensures _ c.loop-i.invariant)
+      | else-self-i-ne0 w ↦ zero_word _ _ c.loop-i.i _ _ _ _ w.if-self-i-ne0.false w.n-is w.out-is c.loop-i.invariant
     ]
