@@ -17,26 +17,19 @@ pub record Standing (cells : List ℕ) (used count : ℕ) (starts : List ℕ) : 
   pub indexed : (p : ℕ) → p < count → get_or starts p 0 ≡ start (parse count cells) p
   pub proper : (p : ℕ) → p < count → ∥ Proper (get_or (parse count cells) p []) ∥₁
 
--- the same facts, as a struct asks for them
-abbrev pub Fields : List ℕ → ℕ → ℕ → List ℕ → Type 0
-Fields cells used count starts = (used ≤ length cells) × ((count ≤ 8192) × ((length starts ≡ 8192) × ((flat (parse count cells) ≡ take used cells) × ((length (parse count cells) ≡ count) × (((p : ℕ) → p < count → get_or starts p 0 ≡ start (parse count cells) p) × (((p : ℕ) → p < count → ∥ Proper (get_or (parse count cells) p []) ∥₁) × Unit {0}))))))
-
 pub standing : (s : CellShelf) → Standing s.cells.now s.used s.count s.starts
 standing s = record { within = s.within; few = s.few; long = s.long; laid = s.laid; counted = s.counted; indexed = s.indexed; proper = s.proper }
-
-fields : {cells : List ℕ} {used count : ℕ} {starts : List ℕ} → Standing cells used count starts → Fields cells used count starts
-fields f = (f.within, (f.few, (f.long, (f.laid, (f.counted, (f.indexed, (f.proper, tt)))))))
 
 -- cells that are the same up to the end of the lines hold the same lines
 pub same_lines : (cells cells' : List ℕ) (used count : ℕ) (starts : List ℕ) → Standing cells used count starts → take used cells' ≡ take used cells → parse count cells' ≡ parse count cells
 same_lines cells cells' used count starts f same = parse_front cells' used count (parse count cells) (f.laid ∙ sym same) f.counted
 
-pub past : (s : CellShelf) (i v : ℕ) → s.used ≤ i → Fields (set s.cells.now i v) s.used s.count s.starts
+pub past : (s : CellShelf) (i v : ℕ) → s.used ≤ i → Standing (set s.cells.now i v) s.used s.count s.starts
 past s i v h =
     let f = standing s in
     let same : take s.used (set s.cells.now i v) ≡ take s.used s.cells.now = take-set-le s.used s.cells.now i v h in
     let e = same_lines s.cells.now (set s.cells.now i v) s.used s.count s.starts f same in
-    fields record {
+    record {
       within = simp length-set f.within;
       few = f.few;
       long = f.long;
@@ -73,9 +66,9 @@ module _ (cells : List ℕ) (used count : ℕ) (starts : List ℕ) (f : Standing
   proper_push p (inl lt) proper = rw (get_or_append_left lines (C ∷ []) [] p lt) (f.proper p (omega (arith, f.counted)))
   proper_push p (inr e) proper = rw (get_or_push lines C [] p e) proper
 
-  pub push : (n : ℕ) → n ≡ length C → count < 8192 → get_or starts count 0 ≡ used → ∥ Proper C ∥₁ → Fields cells (used + (1 + n)) (count + 1) starts
+  pub push : (n : ℕ) → n ≡ length C → count < 8192 → get_or starts count 0 ≡ used → ∥ Proper C ∥₁ → Standing cells (used + (1 + n)) (count + 1) starts
   push n long room marked proper =
-      fields record {
+      record {
         within = omega (arith, ap length lies, length-take (1 + length C) (drop used cells), length-drop used cells);
         few = omega arith;
         long = f.long;

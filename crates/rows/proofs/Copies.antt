@@ -14,16 +14,22 @@ use Rattle.rows.specs.declared.row_shelf.RowShelf.{RowShelf}
 use Rattle.rows.proofs.Lines.{rows_at, rows_more, row_is, Alike, row_same, rows_same}
 
 -- what holds of a row shelf, as its ghost fields say it
-abbrev pub Good : List ℕ → ℕ → Type 0
-Good words n = (n ≤ 8192) × ((16 * n ≤ length words) × (((p : ℕ) → p < n → Tautological (members (row words p)) → ⊥) × Unit {0}))
+pub record Good (words : List ℕ) (n : ℕ) : Type 0 where
+  pub few : n ≤ 8192
+  pub within : 16 * n ≤ length words
+  pub proper : (p : ℕ) → p < n → Tautological (members (row words p)) → ⊥
 
 pub good_in : (s : RowShelf) → Good s.words.now s.count
-good_in s = (s.few, (s.within, (s.proper, tt)))
+good_in s = record { few = s.few; within = s.within; proper = s.proper }
 
 -- it holds of words that are alike as far as the first rows go
 good_same : (old words : List ℕ) (n : ℕ) → Good old n → Alike old words n → Good words n
 good_same old words n g a =
-    (g.0, (omega (arith, a.long), ((λ p h. subst (λ r. Tautological (members r) → ⊥) (sym (row_same old words n g.1.0 a p h)) (g.1.1.0 p h)), tt)))
+    record {
+      few = g.few;
+      within = omega (arith, g.within, a.long);
+      proper = λ p h. subst (λ r. Tautological (members r) → ⊥) (sym (row_same old words n g.within a p h)) (g.proper p h);
+    }
 
 -- a word written past the first rows
 pub good_set : (words : List ℕ) (n i x : ℕ) → Good words n → 16 * n ≤ i → Good (set words i x) n
@@ -40,7 +46,7 @@ module _ (old words new : List ℕ) (n : ℕ) (g : Good old n) (room : n < lengt
 
   copied_rows : rows words (n + 1) ≡ rows old n ++ members new ∷ []
   copied_rows =
-      rows_more words n ∙ ap₂ (λ Cs C. Cs ++ members C ∷ []) (rows_same old words n g.1.0 alike) copied_row
+      rows_more words n ∙ ap₂ (λ Cs C. Cs ++ members C ∷ []) (rows_same old words n g.within alike) copied_row
 
   -- the shelf has one clause more
   pub copied_shelf : shelved words (n + 1) ≡ holding (shelved old n) (rows old n ++ members new ∷ [])
@@ -48,11 +54,11 @@ module _ (old words new : List ℕ) (n : ℕ) (g : Good old n) (room : n < lengt
 
   -- and is one still
   pub copied_good : n < 8192 → (Tautological (members new) → ⊥) → Good words (n + 1)
-  copied_good few free = (omega arith, (omega (arith, c.long), (each, tt)))
+  copied_good few free = record { few = omega arith; within = omega (arith, c.long, room); proper = each }
     where
       each : (p : ℕ) → p < n + 1 → Tautological (members (row words p)) → ⊥
       each p h =
-          ⊎_elim (λ k. (good_same old words n g alike).1.1.0 p k)
+          ⊎_elim (λ k. (good_same old words n g alike).proper p k)
           (λ k. let at : n ≡ p = omega arith in subst (λ q. Tautological (members (row words q)) → ⊥) at (subst (λ r. Tautological (members r) → ⊥) (sym copied_row) free))
           (cases_lt p n)
 
@@ -64,7 +70,7 @@ row_read words got n p h e =
 
 -- a clause in the first rows is short
 pub line_short : (words : List ℕ) (n p : ℕ) → Good words n → p < n → length (line_of (rows words n) p) ≤ 512
-line_short words n p g h = rw (rows_at words n p h) (half_members (row words p) (g.1.1.0 p h))
+line_short words n p g h = rw (rows_at words n p h) (half_members (row words p) (g.proper p h))
 
 -- the literals of a set, listed at the front of a place with room for them
 pub line_copied :
