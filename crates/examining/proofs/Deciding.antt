@@ -1,7 +1,7 @@
 -- One entry claims one line, and one claim has one answer.
 use Rattle.std.proofs.Common.{◌≡◌, ℕ, cond, eqb, length, get_or, Ok, Err, sym, refl, ap, ◌∙◌, arith}
 use mathlib.Core.HLevel.{is_prop→PathP, Π_prop, ×_prop}
-use base.Stored.{CodedSet, coded_ℕ}
+use base.Stored.{Coded-set, coded_ℕ}
 use native.Mathlib.Bridge.{le_prop}
 use Rattle.calculus.specs.Literals.{var}
 use Rattle.calculus.specs.Meaning.{Variable, Code}
@@ -18,7 +18,7 @@ use Rattle.dockets.specs.Encoding.{Entry, axiom_entry, resolution_entry, reducti
 use Rattle.examining.specs.Entries.{Claims}
 
 eq_prop : (x y : ℕ) → IsProp (x ≡ y)
-eq_prop x y = CodedSet coded_ℕ x y
+eq_prop x y = Coded-set coded_ℕ x y
 
 -- cards with the same images are the same
 pub same_card : (card other : Card) → card.images ≡ other.images → card ≡ other
