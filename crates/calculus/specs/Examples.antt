@@ -1,5 +1,5 @@
 -- A small false formula, and a true one: the definitions at work.
-use Rattle.std.specs.Prelude.{◌≡◌, ℕ, true, false, List, [], ◌∷◌}
+use Rattle.std.specs.Prelude.{◌≡◌, true, false, [], ◌∷◌}
 use Rattle.calculus.specs.Meaning.{Meaning, Formed}
 use Rattle.calculus.specs.Truth.{truth}
 

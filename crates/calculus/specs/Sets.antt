@@ -1,5 +1,5 @@
 -- Lists read as sets.
-use Rattle.std.specs.Prelude.{◌≡◌, ℕ, Bool, true, false, ◌||◌, ◌⊎◌, ◌↔◌, List, [], ◌∷◌, ◌==◌}
+use Rattle.std.specs.Prelude.{◌≡◌, ℕ, Bool, false, ◌||◌, ◌⊎◌, ◌↔◌, List, [], ◌∷◌, ◌==◌}
 
 infix 40 ◌∈◌
 -- x stands in the list

@@ -1,3 +1,5 @@
+#![tactic(auto)]
+
 // Cards, symmetries and images, by examples.
 #[cfg(test)]
 mod acting;

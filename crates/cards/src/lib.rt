@@ -1,4 +1,6 @@
 // Cards: signed permutations of the variables 1 to 512, passed by value.
+#![tactic(auto)]
+
 ghost use Rattle.cards.specs.Outcomes.{Outcomes};
 
 mod card;

@@ -1,5 +1,5 @@
 -- A list of calls made on a case that was just opened, one after the other.
-use Rattle.std.proofs.Common.{◌≡◌, ℕ, ◌+◌, ◌-◌, ◌<◌, ◌≤◌, ◌⊎◌, List, [], map, length, get_or, take, drop, set, sym, refl, ap, ◌∙◌, subst, subst₂, ⊎_elim, arith, length-set}
+use Rattle.std.proofs.Common.{◌≡◌, ℕ, ◌+◌, ◌-◌, ◌<◌, ◌≤◌, ◌⊎◌, List, [], map, length, get_or, take, drop, sym, refl, ap, ◌∙◌, subst, subst₂, ⊎_elim, arith, length-set}
 use Rattle.std.proofs.lemmas.List.{take_all, take_more_set, drop-drop, drop-set-lt}
 use Rattle.calculus.specs.Meaning.{Meaning, Formed}
 use Rattle.laws.specs.Store.{Store}

@@ -1,4 +1,5 @@
 // A case: one formula, one shelf, and the lines claimed on them so far.
+#![tactic(auto)]
 
 mod call;
 mod case;

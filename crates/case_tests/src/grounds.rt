@@ -51,18 +51,18 @@ pub(crate) fn all_hold(
     on_shelves(
         rt,
         heap,
+        ("a table on cells", "a table on rows"),
         &Table::over(outline, &literals, &ends),
         room,
         rows,
         clauses,
-    )
-    .note("table")?;
+    )?;
     // each literal is negated here, and again by the card
     for code in literals.iter_mut() {
         *code = if *code % 2 == 0 { *code + 1 } else { *code - 1 };
     }
     let negated = Table::over(outline, &literals, &ends);
-    on_image(rt, heap, &negated, room, rows, clauses).note("image")
+    on_image(rt, heap, &negated, room, rows, clauses)
 }
 
 // The rows hold for the formula's image under the card that negates each of its variables.
@@ -76,7 +76,15 @@ fn on_image<F: Formula>(
 ) -> Result<(), Fail> {
     let pairs = NEGATED.get(0..formula.variable_count()).ok_or("many")?;
     match Image::new(formula, card(pairs)?) {
-        Ok(image) => on_shelves(rt, heap, &image, room, rows, clauses),
+        Ok(image) => on_shelves(
+            rt,
+            heap,
+            ("an image on cells", "an image on rows"),
+            &image,
+            room,
+            rows,
+            clauses,
+        ),
         Err(_) => Err(Fail::new("no image")),
     }
 }
@@ -85,6 +93,7 @@ fn on_image<F: Formula>(
 fn on_shelves<F: Formula>(
     rt: &impl Abort,
     heap: Global,
+    grounds: (&str, &str),
     formula: &F,
     room: (usize, usize),
     rows: &[(Call, Reply)],
@@ -92,8 +101,8 @@ fn on_shelves<F: Formula>(
 ) -> Result<(), Fail> {
     let mut cells = vec![in heap; 7u16; room.0]?;
     let mut shelf = CellShelf::over(&mut cells);
-    hold(rt, heap, formula, &mut shelf, rows, clauses).note("cells")?;
+    hold(rt, heap, grounds.0, formula, &mut shelf, rows, clauses)?;
     let mut words = vec![in heap; 7u64; room.1]?;
     let mut shelf = RowShelf::over(&mut words);
-    hold(rt, heap, formula, &mut shelf, rows, clauses).note("rows")
+    hold(rt, heap, grounds.1, formula, &mut shelf, rows, clauses)
 }

@@ -17,44 +17,96 @@ const EASY: &str = "p cnf 1 2 e 1 0 -1 0 0";
 // The shelf is cleared at each opening, and the formula comes back as it was.
 fn reopens<F: Formula + Drop, S: Shelf + Drop>(
     rt: &impl Abort,
+    ground: &str,
     formula: F,
     mut shelf: S,
 ) -> Result<(), Fail> {
-    assert!(rt; shelf.keep(Clause::front(&[2, 5])).is_ok());
-    assert!(rt; shelf.keep(Clause::front(&[])).is_ok());
+    assert!(rt; shelf.keep(Clause::front(&[2, 5])).is_ok(), "{}", ground);
+    assert!(rt; shelf.keep(Clause::front(&[])).is_ok(), "{}", ground);
     keeps(rt, &shelf, &[&[1, -2], &[]])?;
     // a case that is refuted
     let mut case = Case::open(formula, shelf);
-    assert_eq!(rt; said(case.answer(Call::Verdict)), said(open(0)));
-    assert_eq!(rt; said(case.answer(Call::Axiom(1))), said(line(0)));
-    assert_eq!(rt; said(case.answer(Call::Verdict)), said(refuted(1)));
+    assert_eq!(rt;
+        said(case.answer(Call::Verdict)),
+        said(open(0)),
+        "{}",
+        ground
+    );
+    assert_eq!(rt;
+        said(case.answer(Call::Axiom(1))),
+        said(line(0)),
+        "{}",
+        ground
+    );
+    assert_eq!(rt;
+        said(case.answer(Call::Verdict)),
+        said(refuted(1)),
+        "{}",
+        ground
+    );
     let (formula, shelf) = case.close();
     keeps(rt, &shelf, &[&[]])?;
     // another, on what it gave back
     let mut case = Case::open(formula, shelf);
-    assert_eq!(rt; said(case.answer(Call::Verdict)), said(open(0)));
-    assert_eq!(rt; said(case.answer(Call::Axiom(0))), said(line(0)));
-    assert_eq!(rt; said(case.answer(Call::Verdict)), said(open(1)));
+    assert_eq!(rt;
+        said(case.answer(Call::Verdict)),
+        said(open(0)),
+        "{}",
+        ground
+    );
+    assert_eq!(rt;
+        said(case.answer(Call::Axiom(0))),
+        said(line(0)),
+        "{}",
+        ground
+    );
+    assert_eq!(rt;
+        said(case.answer(Call::Verdict)),
+        said(open(1)),
+        "{}",
+        ground
+    );
     let (formula, shelf) = case.close();
     keeps(rt, &shelf, &[&[-1]])?;
-    assert_eq!(rt; (formula.variable_count(), formula.clause_count()), (1, 2));
-    assert_eq!(rt; (formula.clause_len(0), formula.literal(0, 0)), (1, 3));
-    assert_eq!(rt; formula.clause_len(1), 0);
+    assert_eq!(rt;
+        (formula.variable_count(), formula.clause_count()),
+        (1, 2),
+        "{}",
+        ground
+    );
+    assert_eq!(rt;
+        (formula.clause_len(0), formula.literal(0, 0)),
+        (1, 3),
+        "{}",
+        ground
+    );
+    assert_eq!(rt; formula.clause_len(1), 0, "{}", ground);
     Ok(())
 }
 
 // 8,192 claims are granted and no more, however much room there is.
 fn fills<F: Formula + Drop, S: Shelf + Drop>(
     rt: &impl Abort,
+    ground: &str,
     formula: F,
     shelf: S,
 ) -> Result<(), Fail> {
     let mut case = Case::open(formula, shelf);
     for i in 0..8192 {
-        assert_eq!(rt; said(case.answer(Call::Axiom(0))), said(line(i)));
+        assert_eq!(rt;
+            said(case.answer(Call::Axiom(0))),
+            said(line(i)),
+            "{}",
+            ground
+        );
     }
-    assert_eq!(rt; said(case.answer(Call::Axiom(0))), said(FULL));
-    assert_eq!(rt; said(case.answer(Call::Verdict)), said(open(8192)));
+    assert_eq!(rt; said(case.answer(Call::Axiom(0))), said(FULL), "{}", ground);
+    assert_eq!(rt;
+        said(case.answer(Call::Verdict)),
+        said(open(8192)),
+        "{}",
+        ground
+    );
     Ok(())
 }
 
@@ -65,13 +117,13 @@ fn opened(rt: HostRuntime) -> Result<(), Fail> {
     let mut ends = [0; 2];
     let outline = read(EASY, &mut literals, &mut ends)?;
     let table = Table::over(outline, &literals, &ends);
-    reopens(&rt, table, CellShelf::over(&mut [0; 4])).note("cells")?;
+    reopens(&rt, "cells", table, CellShelf::over(&mut [0; 4]))?;
     let table = Table::over(outline, &literals, &ends);
-    reopens(&rt, table, RowShelf::over(&mut [0; 32])).note("rows")?;
+    reopens(&rt, "rows", table, RowShelf::over(&mut [0; 32]))?;
     let mut cells = vec![in rt.alloc(); 0u16; 20000]?;
     let table = Table::over(outline, &literals, &ends);
-    fills(&rt, table, CellShelf::over(&mut cells)).note("cells")?;
+    fills(&rt, "cells", table, CellShelf::over(&mut cells))?;
     let mut words = vec![in rt.alloc(); 0u64; 140000]?;
     let table = Table::over(outline, &literals, &ends);
-    fills(&rt, table, RowShelf::over(&mut words)).note("rows")
+    fills(&rt, "rows", table, RowShelf::over(&mut words))
 }

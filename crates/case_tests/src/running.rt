@@ -34,6 +34,7 @@ fn places(rt: HostRuntime) -> Result<(), Fail> {
         runs(
             &rt,
             rt.alloc(),
+            "a table on cells",
             table,
             CellShelf::over(&mut cells),
             rows,
@@ -45,6 +46,7 @@ fn places(rt: HostRuntime) -> Result<(), Fail> {
     runs(
         &rt,
         rt.alloc(),
+        "no calls",
         Table::over(outline, &literals, &ends),
         CellShelf::over(&mut [0; 8]),
         &[],

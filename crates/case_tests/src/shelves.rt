@@ -7,7 +7,7 @@ use std::test::Fail;
 pub(crate) fn keeps<S: Shelf>(rt: &impl Abort, shelf: &S, clauses: &[&[i32]]) -> Result<(), Fail> {
     assert_eq!(rt; shelf.count(), clauses.len());
     for (line, literals) in clauses.iter().enumerate() {
-        keeps_line(rt, shelf, line, *literals).note(line)?;
+        keeps_line(rt, shelf, line, *literals)?;
     }
     assert!(rt; shelf.look(clauses.len(), &mut [0; 512]).is_err());
     Ok(())
@@ -22,12 +22,17 @@ fn keeps_line<S: Shelf>(
 ) -> Result<(), Fail> {
     let mut place = [0u16; 512];
     match shelf.look(line, &mut place) {
-        Ok(len) => assert_eq!(rt; len, literals.len()),
+        Ok(len) => assert_eq!(rt; len, literals.len(), "line {}", line),
         Err(_) => return Err(Fail::new("no such line")),
     }
     for (code, literal) in place.iter().zip(literals) {
         let v = (*code / 2) as i32;
-        assert_eq!(rt; if *code % 2 == 0 { v } else { -v }, *literal);
+        assert_eq!(rt;
+            if *code % 2 == 0 { v } else { -v },
+            *literal,
+            "line {}",
+            line
+        );
     }
     Ok(())
 }

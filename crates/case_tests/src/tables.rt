@@ -16,6 +16,7 @@ const OTHER: Reply = Reply::Granted(8192);
 pub(crate) fn hold<F: Formula, S: Shelf>(
     rt: &impl Abort,
     heap: Global,
+    ground: &str,
     formula: &F,
     shelf: &mut S,
     rows: &[(Call, Reply)],
@@ -25,9 +26,18 @@ pub(crate) fn hold<F: Formula, S: Shelf>(
     for k in 0..rows.len() + 1 {
         let (front, _) = rows.split_at(k);
         let kept = clauses.get(0..granted).ok_or("more are granted")?;
-        answers(rt, formula, &mut *shelf, front, kept).note(k)?;
-        runs(rt, heap, formula, &mut *shelf, rows, k, kept).note(k)?;
-        runs(rt, heap, formula, &mut *shelf, front, rows.len(), kept).note(k)?;
+        answers(rt, ground, formula, &mut *shelf, front, kept)?;
+        runs(rt, heap, ground, formula, &mut *shelf, rows, k, kept)?;
+        runs(
+            rt,
+            heap,
+            ground,
+            formula,
+            &mut *shelf,
+            front,
+            rows.len(),
+            kept,
+        )?;
         if let Some((_, Reply::Granted(_))) = rows.get(k) {
             granted = granted.saturating_add(1);
         }
@@ -39,6 +49,7 @@ pub(crate) fn hold<F: Formula, S: Shelf>(
 // Each call, made one by one, gets the reply beside it; a refusal leaves the verdict as it was. Then these clauses are kept.
 pub(crate) fn answers<F: Formula + Drop, S: Shelf + Drop>(
     rt: &impl Abort,
+    ground: &str,
     formula: F,
     shelf: S,
     rows: &[(Call, Reply)],
@@ -47,11 +58,20 @@ pub(crate) fn answers<F: Formula + Drop, S: Shelf + Drop>(
     let mut case = Case::open(formula, shelf);
     for (call, reply) in rows {
         let before = case.verdict();
-        assert_eq!(rt; said(make(&mut case, *call)), said(*reply));
+        assert_eq!(rt;
+            said(make(&mut case, *call)),
+            said(*reply),
+            "{}, {} calls",
+            ground,
+            rows.len()
+        );
         if let Reply::Refused(_) = reply {
             assert_eq!(rt;
                 said(Reply::Verdict(case.verdict())),
-                said(Reply::Verdict(before))
+                said(Reply::Verdict(before)),
+                "{}, {} calls",
+                ground,
+                rows.len()
             );
         }
     }
@@ -78,6 +98,7 @@ fn make<F: Formula, S: Shelf>(case: &mut Case<F, S>, call: Call) -> Reply {
 pub(crate) fn runs<F: Formula + Drop, S: Shelf + Drop>(
     rt: &impl Abort,
     heap: Global,
+    ground: &str,
     formula: F,
     shelf: S,
     rows: &[(Call, Reply)],
@@ -95,7 +116,14 @@ pub(crate) fn runs<F: Formula + Drop, S: Shelf + Drop>(
             Some((_, reply)) => *reply,
             None => OTHER,
         };
-        assert_eq!(rt; said(*reply), said(expected));
+        assert_eq!(rt;
+            said(*reply),
+            said(expected),
+            "{}, {} calls, {} places",
+            ground,
+            rows.len(),
+            places
+        );
     }
     let (_, shelf) = case.close();
     keeps(rt, &shelf, clauses)

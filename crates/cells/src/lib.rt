@@ -1,4 +1,5 @@
 // A shelf over lent cells of 16 bits.
+#![tactic(auto)]
 
 mod cell_shelf;
 

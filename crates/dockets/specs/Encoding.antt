@@ -1,6 +1,6 @@
 -- The lines of a docket, and the bytes that each is written as.
 use Rattle.std.specs.Prelude.{ℕ, ◌/◌, ◌%◌, ◌<◌, List, [], ◌∷◌, ◌++◌, length}
-use Rattle.std.specs.List.{flat_map, AllByRecursion as All}
+use Rattle.std.specs.List.{flat_map}
 use Rattle.cards.specs.Pairs.{Lawful}
 
 -- clause j; lines p and q and the variable v; line p and the variable v; line p and the pairs of its card

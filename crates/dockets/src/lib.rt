@@ -1,4 +1,5 @@
 // Dockets: the lines of a proof as bytes.
+#![tactic(auto)]
 
 mod card;
 mod cutting;

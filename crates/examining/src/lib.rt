@@ -1,4 +1,6 @@
 // A docket examined on a case, line by line, up to its first fault.
+#![tactic(auto)]
+
 ghost use Rattle.examining.specs.Examined.{EndsOnce};
 
 mod claim;

@@ -1,4 +1,5 @@
 // Faults that keep their place: a claim's inside a docket's, and that inside the report's.
+#![tactic(auto)]
 
 mod docket_fault;
 mod placed;

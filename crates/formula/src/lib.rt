@@ -1,4 +1,6 @@
 // A formula is what its six questions answer. Code above is proved once, for every implementation.
+#![tactic(auto)]
+
 ghost use Rattle.std.specs.Prelude.{ℕ, length, ◌≡◌};
 ghost use Rattle.calculus.specs.Meaning.{Meaning, Formed, level_of, quantifier_of, clause_of, literal_of};
 

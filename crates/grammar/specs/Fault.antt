@@ -1,10 +1,10 @@
 -- The five rules, and which of them is broken by what stands behind a draft: on one word the lower number decides.
-use Rattle.std.specs.Prelude.{ℕ, zero, suc, ◌+◌, Bool, true, false, cond, not, ◌&&◌, ◌||◌, List, [], ◌∷◌, length, Some, None, Option, ◌==◌, nat_le, nat_lt}
+use Rattle.std.specs.Prelude.{ℕ, zero, suc, ◌+◌, Bool, false, cond, not, ◌&&◌, ◌||◌, List, [], ◌∷◌, length, Some, None, Option, ◌==◌, nat_le, nat_lt}
 use Rattle.grammar.specs.declared.rule.Rule.{Rule}
 use Rattle.grammar.specs.declared.rule.Rule.TheVariants.{Spelling, Header, Size, Binding, Tally}
 use Rattle.grammar.specs.Draft.{Block, Draft, nothing, problem, format, sized, binding, matrix, level_in}
 use Rattle.grammar.specs.Lawful.{Sizes, latest, literal_count}
-use Rattle.grammar.specs.Next.{Next, size, is_end, is_p, is_cnf, is_letter, is_natural, is_number, is_zero, is_literal}
+use Rattle.grammar.specs.Next.{Next, size, is_end, is_p, is_cnf, is_letter, is_natural, is_number, is_literal}
 
 -- the number under which a broken rule is reported
 abbrev pub number : Rule → ℕ

@@ -1,5 +1,5 @@
 -- What stands behind a draft: a word, or the end of the text, which is None.
-use Rattle.std.specs.Prelude.{ℕ, ◌+◌, ◌*◌, Bool, true, false, cond, not, ◌&&◌, ◌||◌, List, [], ◌∷◌, Some, None, Option, ◌==◌}
+use Rattle.std.specs.Prelude.{ℕ, ◌+◌, ◌*◌, Bool, cond, not, ◌&&◌, ◌||◌, [], ◌∷◌, Some, None, Option, ◌==◌}
 use Rattle.words.specs.declared.token.Token.{Token}
 use Rattle.words.specs.declared.token.Token.TheVariants.{Problem, Cnf, Exists, Forall, Number, Negative, Other}
 use Rattle.grammar.specs.Draft.{Block, Draft, nothing, problem, format, sized, binding, matrix}

@@ -1,5 +1,5 @@
 -- What is proved of the grammar.
-use Rattle.std.specs.Prelude.{◌≡◌, ℕ, ◌≤◌, ◌↔◌, List, [], ◌∷◌, ◌++◌, length, Some, None}
+use Rattle.std.specs.Prelude.{◌≡◌, ℕ, ◌↔◌, List, [], ◌∷◌, ◌++◌, length, Some, None}
 use Rattle.words.specs.declared.token.Token.{Token}
 use Rattle.words.specs.Words.{spellings, Solid, Apart}
 use Rattle.calculus.specs.Meaning.{Meaning, Formed}

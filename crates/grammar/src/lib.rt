@@ -1,4 +1,6 @@
 // The grammar of formula text, over words, and what is proved of it, each theorem on the contract of a small function.
+#![tactic(auto)]
+
 ghost use Rattle.grammar.specs.Theorems.{BehindNeverMatters, OneOutcome, ReadFormed, WordsThatFollow, WordsDecide};
 
 mod rule;

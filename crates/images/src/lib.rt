@@ -1,4 +1,5 @@
 // The image of a formula under a card.
+#![tactic(auto)]
 
 mod image;
 

@@ -1,5 +1,5 @@
 -- The checks of a claim where it is known of the case whether it is closed, and not only what it keeps.
-use Rattle.std.specs.Prelude.{◌≡◌, ℕ, Bool, true, false, not, ◌↔◌, List, [], ◌∷◌, ◌++◌}
+use Rattle.std.specs.Prelude.{◌≡◌, ℕ, Bool, not, ◌↔◌, List, [], ◌∷◌, ◌++◌}
 use Rattle.calculus.specs.Meaning.{Meaning}
 use Rattle.laws.specs.Lines.{Line}
 use Rattle.laws.specs.Derivations.{Gives, Permits}

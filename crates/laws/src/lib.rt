@@ -1,4 +1,6 @@
 // The calculus over formulas, and what is proved of it, each theorem on the contract of a small function.
+#![tactic(auto)]
+
 ghost use Rattle.laws.specs.Order.{OrdersRight};
 ghost use Rattle.laws.specs.Replies.{CallsHaveOneOutcome};
 ghost use Rattle.laws.specs.Theorems.{ClausesProper, Sound, SymmetryAddsNothing, ImagesDerive, Complete, CardsUndone};

@@ -1,4 +1,6 @@
 // Reads formula.qdimacs and prints the formula with every literal negated, or the line that reports the first fault of the text.
+#![tactic(auto)]
+
 use std::alloc::Global;
 use std::io::Write;
 use std::{fs, io};

@@ -1,5 +1,7 @@
 // A text mirrored: read into lent cells, and the image of its formula under the negation of every variable, or the report of its first
 // fault, written into a lent buffer.
+#![tactic(auto)]
+
 ghost use Rattle.std.specs.Prelude.{ℕ, List};
 ghost use Rattle.grammar.specs.Lawful.{Sizes};
 ghost use Rattle.reading.specs.Stands.{sizes};

@@ -1,11 +1,11 @@
 -- A variable in a block: which rule it breaks, and the state that stands for the block with it.
-use Rattle.std.proofs.Common.{◌≡◌, ℕ, suc, ◌<◌, ◌≤◌, false, cond, ◌⊎◌, List, [], ◌∷◌, length, get_or, set, Some, None, sym, refl, ap, ◌∙◌, subst, ⊎_elim, arith}
+use Rattle.std.proofs.Common.{◌≡◌, ℕ, suc, ◌<◌, ◌≤◌, false, ◌⊎◌, List, ◌∷◌, length, get_or, set, Some, None, sym, refl, ◌∙◌, ⊎_elim, arith}
 use Rattle.std.proofs.lemmas.List.{get_or-set_same, get_or-set_other}
 use Rattle.std.proofs.lemmas.Bool.{cases_eq, eq-eqb, ne_eqb}
 use Rattle.std.proofs.lemmas.Bool.Decides.{nat_tests}
 use Rattle.grammar.specs.declared.rule.Rule.TheVariants.{Binding}
-use Rattle.grammar.specs.Draft.{Block, Draft, matrix, binding, level_in, quantifier_in}
-use Rattle.grammar.specs.Lawful.{Sizes, Lawful}
+use Rattle.grammar.specs.Draft.{Block, Draft, binding, level_in, quantifier_in}
+use Rattle.grammar.specs.Lawful.{Sizes}
 use Rattle.grammar.specs.Next.{Next, sort, size, after}
 use Rattle.grammar.specs.Fault.{fault}
 use Rattle.reading.specs.declared.state.Stage.TheVariants.{Block as InBlock}

@@ -1,15 +1,14 @@
 -- Clauses behind the blocks: the state and the cells that stand for one literal more, or for one ended clause more.
-use Rattle.std.proofs.Common.{◌≡◌, ℕ, suc, ◌+◌, ◌*◌, ◌<◌, Bool, true, false, cond, List, [], ◌∷◌, ◌++◌, reverse, length, set, sym, refl, ap, ◌∙◌, subst, arith}
+use Rattle.std.proofs.Common.{◌≡◌, ℕ, ◌+◌, ◌*◌, ◌<◌, Bool, true, false, cond, List, [], ◌∷◌, ◌++◌, length, set, sym, refl, ap, ◌∙◌, subst, arith}
 use Rattle.std.proofs.lemmas.List.{length-set}
 use Rattle.std.proofs.lemmas.Bool.{ne_eqb}
 use Rattle.std.proofs.lemmas.List.Sums.{sum_by-cons}
 use Rattle.grammar.specs.Draft.{Block, Draft, matrix}
-use Rattle.grammar.specs.Lawful.{literal_count}
 use Rattle.grammar.specs.Next.{Next, sort, size, is_letter, is_zero, code_of, after}
 use Rattle.reading.specs.declared.state.Stage.TheVariants.{Matrix}
 use Rattle.reading.specs.declared.state.State.{State}
-use Rattle.reading.specs.Laid.{padded, all_codes, running}
-use Rattle.reading.specs.Stands.{Stands, stage_of, clauses_of, open_of, in_order}
+use Rattle.reading.specs.Laid.{padded, running}
+use Rattle.reading.specs.Stands.{Stands, stage_of, in_order}
 use Rattle.reading.proofs.Stages.{in_matrix}
 use Rattle.reading.proofs.Laying.{padded_push, length_in_order, length_running, codes_push, codes_count, codes_ended, ends_push}
 

@@ -1,5 +1,5 @@
 -- A letter behind the blocks that have ended: which rule it breaks, and the state that stands for the block it opens.
-use Rattle.std.proofs.Common.{◌≡◌, ℕ, ◌+◌, ◌<◌, ◌≤◌, true, List, [], ◌∷◌, length, Some, None, sym, refl, ◌∙◌, subst, arith}
+use Rattle.std.proofs.Common.{◌≡◌, ℕ, ◌+◌, ◌<◌, ◌≤◌, true, List, [], ◌∷◌, length, Some, None, ◌∙◌, arith}
 use Rattle.std.proofs.lemmas.Bool.Decides.{nat_tests}
 use Rattle.grammar.specs.declared.rule.Rule.TheVariants.{Spelling, Binding}
 use Rattle.grammar.specs.Draft.{Block, Draft, matrix, binding}

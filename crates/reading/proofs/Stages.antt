@@ -1,7 +1,7 @@
 -- A draft at a given stage.
 use Rattle.std.proofs.Common.{◌≡◌, ℕ, List, arith}
 use Rattle.grammar.specs.Draft.{Block, Draft, nothing, problem, format, sized, binding, matrix}
-use Rattle.reading.specs.declared.state.Stage.TheVariants.{Start, Problem, Format, Sized, Block as InBlock, Matrix}
+use Rattle.reading.specs.declared.state.Stage.TheVariants.{Block as InBlock, Matrix}
 use Rattle.reading.specs.Stands.{stage_of}
 
 pub in_block : (P : Draft → Type 0) → ((n m : ℕ) (bs : List Block) (b : Block) → P (binding n m bs b)) → (d : Draft) → InBlock ≡ stage_of d → P d

@@ -1,6 +1,5 @@
 -- A state and its cells stand for a draft.
-use Rattle.std.specs.Prelude.{◌≡◌, ℕ, zero, suc, Bool, true, false, ◌&&◌, ◌||◌, List, [], ◌∷◌, ◌++◌, map, reverse, length, replicate, Some, None, Ok, Err, Option, Result, ◌==◌, nat_le, slice_index}
-use Rattle.words.specs.declared.token.Token.{Token}
+use Rattle.std.specs.Prelude.{◌≡◌, ℕ, zero, suc, Bool, false, ◌&&◌, ◌||◌, List, [], ◌∷◌, ◌++◌, map, reverse, length, replicate, Some, None, Ok, Err, Option, Result, ◌==◌, nat_le, slice_index}
 use Rattle.grammar.specs.declared.rule.Rule.{Rule}
 use Rattle.grammar.specs.Draft.{Block, Draft, nothing, problem, format, sized, binding, matrix, level_in, quantifier_in}
 use Rattle.grammar.specs.Lawful.{Sizes, Lawful, latest, literal_count}

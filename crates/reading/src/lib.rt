@@ -1,4 +1,6 @@
 // A formula text, read one word after the other.
+#![tactic(auto)]
+
 mod state;
 mod step;
 

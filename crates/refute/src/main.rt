@@ -1,5 +1,7 @@
 // Reads formula.qdimacs, claims the refutation of the example on it, and prints what came of each claim; or the line that reports the first
 // fault of the text.
+#![tactic(auto)]
+
 use cells::CellShelf;
 use claims::make_claims;
 use printing::print_fault;

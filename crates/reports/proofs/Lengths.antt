@@ -8,7 +8,6 @@ use Rattle.dockets.specs.Reading.{rule_number}
 use Rattle.dockets.specs.declared.fault.LineRule.{LineRule}
 use Rattle.dockets.specs.declared.fault.LineRule.TheVariants.{Map, Short, Card}
 use Rattle.faults.specs.Faults.{Layer, of_text, of_docket, of_claim, fault_number, fault_layer, fault_byte, fault_lines}
-use Rattle.faults.specs.declared.docket_fault.DocketFault.{DocketFault}
 use Rattle.faults.specs.declared.docket_fault.DocketFault.TheVariants.{Line, Claim}
 use Rattle.faults.specs.declared.report_fault.ReportFault.{ReportFault}
 use Rattle.faults.specs.declared.report_fault.ReportFault.TheVariants.{Text, Docket}

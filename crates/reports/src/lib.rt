@@ -1,4 +1,6 @@
 // Reports: what a check comes to, written as one line into a lent buffer.
+#![tactic(auto)]
+
 ghost use Rattle.std.specs.Prelude.{◌≡◌};
 ghost use Rattle.writer.specs.Into.{answer, filled};
 ghost use Rattle.reports.specs.Examples.{Examples, TextFaultsAgree};

@@ -1,4 +1,5 @@
 // The rules of the calculus on clauses: the clause of each, as a set of literals, and when it may be used.
+#![tactic(auto)]
 
 mod clauses;
 mod conditions;

@@ -1,5 +1,5 @@
 -- Bits of words: which ones a disjunction and a conjunction have, and that the bits make the word.
-use Rattle.std.proofs.Common.{◌≡◌, ℕ, zero, suc, ◌+◌, ◌-◌, ◌*◌, ◌/◌, ◌%◌, ◌^◌, ◌<◌, true, eqb, List, length, get_or, set, sym, refl, ap, ◌∙◌, ap₂, inl, inr, ⊎_elim, one-mul, zero-mul, one-add, arith, lit<, get_or-set_other, get_or-set_same}
+use Rattle.std.proofs.Common.{◌≡◌, ℕ, zero, suc, ◌+◌, ◌-◌, ◌*◌, ◌/◌, ◌%◌, ◌^◌, ◌<◌, true, eqb, List, length, get_or, sym, refl, ap, ◌∙◌, ap₂, inl, inr, ⊎_elim, one-mul, zero-mul, one-add, arith, lit<, get_or-set_other, get_or-set_same}
 use native.Mathlib.Nat.{zero-div, div-eq_of_lt}
 use lib.Bits.{bit_and, bit_or, and_shr, and_mod, or_shr, or_mod, or_zero_r, shifted_even}
 use Rattle.std.proofs.lemmas.Nat.{pow-add, shl-shr, pow_below, mod_below, mod-pow-add}

@@ -1,5 +1,5 @@
 -- What the steps inside do to words and cells.
-use Rattle.std.specs.Prelude.{◌≡◌, ℕ, ◌-◌, ◌/◌, ◌%◌, ◌^◌, ◌<◌, List, length, set, ◌≢◌, bit_and, bit_or, slice_index, slice_set}
+use Rattle.std.specs.Prelude.{◌≡◌, ℕ, ◌-◌, ◌/◌, ◌%◌, ◌^◌, ◌<◌, List, length, ◌≢◌, bit_and, bit_or, slice_index, slice_set}
 use Rattle.sets.specs.Members.{first_members}
 use Rattle.sets.specs.Laid.{laid}
 

@@ -1,4 +1,5 @@
 // Sets of literals, one bit for each variable and sign.
+#![tactic(auto)]
 
 mod set;
 

@@ -1,4 +1,6 @@
 // A shelf keeps clauses, each under the number of its line. Code above is proved once, for every implementation.
+#![tactic(auto)]
+
 ghost use Rattle.std.specs.Prelude.{◌≡◌, [], length};
 ghost use Rattle.shelf.specs.Shelved.{Shelved, Sound, holding, Keeps, Looks};
 ghost use Rattle.shelf.specs.Space.{SpaceSuffices};

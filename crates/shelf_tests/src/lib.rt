@@ -1,3 +1,5 @@
+#![tactic(auto)]
+
 // The cell shelf and the row shelf, by examples.
 #[cfg(test)]
 mod clearing;

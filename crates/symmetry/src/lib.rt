@@ -1,4 +1,5 @@
 // Which cards are symmetries of a formula.
+#![tactic(auto)]
 
 mod admissible;
 mod among;

@@ -1,7 +1,7 @@
 -- Reading on, word by word, from the first word to the formula.
-use Rattle.std.proofs.Common.{◌≡◌, ℕ, ◌+◌, ◌<◌, ◌≤◌, true, eqb, List, [], ◌∷◌, ◌++◌, map, reverse, length, get_or, take, Some, None, Ok, Option, sym, refl, ap, ◌∙◌, subst, arith}
+use Rattle.std.proofs.Common.{◌≡◌, ℕ, ◌+◌, ◌≤◌, eqb, List, [], ◌∷◌, ◌++◌, map, length, get_or, take, Some, None, Ok, Option, sym, refl, ap, ◌∙◌, subst, arith}
 use Rattle.std.specs.List.{range_with_len}
-use Rattle.std.proofs.lemmas.List.{append_assoc, append-nil, map-append, length-take, get_or-take, length-take-le}
+use Rattle.std.proofs.lemmas.List.{append_assoc, append-nil, map-append, get_or-take, length-take-le}
 use Rattle.std.proofs.lemmas.Bool.{and_parts, not-false, eqb-true}
 use Rattle.std.proofs.lemmas.List.FromFn.{fill_by_all}
 use Rattle.words.specs.declared.token.Lexeme.{Lexeme}
@@ -10,7 +10,7 @@ use Rattle.words.specs.Rest.{rest}
 use Rattle.words.specs.Words.{lexemes}
 use Rattle.calculus.specs.Meaning.{Meaning, Prefix}
 use Rattle.grammar.specs.declared.rule.Rule.{Rule}
-use Rattle.grammar.specs.Draft.{Block, Draft, nothing, problem, format, sized, binding, matrix, spell, level_in, quantifier_in, formula_of}
+use Rattle.grammar.specs.Draft.{Block, Draft, nothing, problem, format, sized, binding, matrix, level_in, quantifier_in, formula_of}
 use Rattle.grammar.specs.Lawful.{Sizes, Lawful}
 use Rattle.grammar.specs.Next.{after}
 use Rattle.grammar.specs.Fault.{fault}

@@ -6,7 +6,7 @@ use Rattle.words.specs.Rest.{rest}
 use Rattle.words.specs.Words.{lexemes}
 use Rattle.grammar.specs.declared.rule.TextFault.{TextFault}
 use Rattle.grammar.specs.Draft.{Draft, spell}
-use Rattle.grammar.specs.Lawful.{Sizes, Lawful}
+use Rattle.grammar.specs.Lawful.{Lawful}
 use Rattle.grammar.specs.Outcome.{tokens, Faults}
 use Rattle.reading.specs.declared.state.State.{State}
 use Rattle.reading.specs.Stands.{Stands, sizes}

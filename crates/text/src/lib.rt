@@ -1,4 +1,5 @@
 // Formula text read into lent cells, and the table over them.
+#![tactic(auto)]
 
 mod outline;
 mod reader;

@@ -1,3 +1,5 @@
+#![tactic(auto)]
+
 // Formula text read and written, by examples.
 #[cfg(test)]
 mod buffers;

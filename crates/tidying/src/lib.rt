@@ -1,4 +1,6 @@
 // A text tidied: read into lent cells, and its formula, or the report of its first fault, written into a lent buffer.
+#![tactic(auto)]
+
 ghost use Rattle.std.specs.Prelude.{ℕ, List};
 ghost use Rattle.grammar.specs.Lawful.{Sizes};
 ghost use Rattle.reading.specs.Stands.{sizes};

@@ -1,11 +1,11 @@
 -- What stands behind a word leaves the words up to it as they are.
-use Rattle.std.proofs.Common.{◌≡◌, ℕ, suc, ◌+◌, ◌-◌, ◌<◌, ◌≤◌, Bool, true, false, cond, eqb, List, [], ◌∷◌, ◌++◌, map, length, sym, refl, ap, ◌∙◌, subst, ⊎_elim, add-zero, arith}
+use Rattle.std.proofs.Common.{◌≡◌, ℕ, suc, ◌+◌, ◌<◌, ◌≤◌, true, eqb, List, [], ◌∷◌, ◌++◌, map, length, sym, refl, ap, ◌∙◌, subst, ⊎_elim, arith}
 use Rattle.std.specs.List.{AllByRecursion as All}
 use Rattle.std.proofs.lemmas.List.{append-nil, append_assoc, length-append, length_push, map-append}
 use Rattle.std.proofs.ByRecursion.{All-append, All-map, All-weaker, all-has, has_append_right, has_get_or}
 use Rattle.std.proofs.lemmas.Bool.{cases_Bool, cond_both}
 use Rattle.words.specs.declared.token.Lexeme.{Lexeme}
-use Rattle.words.specs.Words.{Region, line_start, indented, comment, body, blank, next, seen, bare, ended, words_from, words, lexeme, lexemes, Apart}
+use Rattle.words.specs.Words.{Region, line_start, indented, comment, body, blank, next, seen, bare, ended, words_from, lexeme, lexemes, Apart}
 use Rattle.words.specs.Theorems.{WordsBehindNeverMatter}
 use Rattle.words.proofs.Reading.{at_blank, at_solid}
 

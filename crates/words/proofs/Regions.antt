@@ -1,12 +1,12 @@
 -- Comments in front of the first word are blanks, and the text from the first word on has none.
-use Rattle.std.proofs.Common.{◌≡◌, ℕ, ◌+◌, ◌<◌, ◌≤◌, true, false, List, [], ◌∷◌, length, get_or, drop, sym, refl, ap, ◌∙◌, arith}
+use Rattle.std.proofs.Common.{◌≡◌, ℕ, ◌+◌, ◌<◌, ◌≤◌, true, List, [], length, get_or, drop, sym, refl, ◌∙◌, arith}
 use Rattle.std.proofs.lemmas.List.{drop_more, drop_all}
 use Rattle.std.proofs.lemmas.Bool.Decides.{nat_tests}
 use Rattle.words.specs.Regions.{region_of}
 use Rattle.words.specs.declared.comments.Region as code
 use Rattle.words.specs.declared.comments.Region.TheVariants.{LineStart, Indented, Comment, Body}
 use Rattle.words.proofs.Spacing.{bare_body}
-use Rattle.words.specs.Words.{Region, line_start, indented, comment, body, blank, behind, next, seen, bare, words_from}
+use Rattle.words.specs.Words.{Region, line_start, indented, comment, body, blank, next, seen, bare, words_from}
 
 blank_seen : (r : Region) (b : ℕ) → (next r b ≡ body → ⊥) → blank (seen r b) ≡ true
 blank_seen line_start b h = grind (arith, nat_tests)

@@ -1,7 +1,6 @@
 -- The words of a formula text, with their places.
-use Rattle.std.specs.Prelude.{◌≡◌, ℕ, suc, ◌+◌, ◌-◌, ◌≤◌, Bool, true, false, cond, not, ◌||◌, List, [], ◌∷◌, ◌++◌, map, length, ◌==◌}
+use Rattle.std.specs.Prelude.{◌≡◌, ℕ, ◌+◌, ◌-◌, ◌≤◌, Bool, true, false, cond, ◌||◌, List, [], ◌∷◌, ◌++◌, map, length, ◌==◌}
 use Rattle.std.specs.List.{AllByRecursion as All}
-use Rattle.words.specs.declared.token.Token.{Token}
 use Rattle.words.specs.declared.token.Lexeme.{Lexeme}
 use Rattle.words.specs.Tokens.{token_of}
 

@@ -1,4 +1,6 @@
 // Formula text cut into words, and theorems on words, each on the contract of a small function.
+#![tactic(auto)]
+
 ghost use Rattle.words.specs.Theorems.{NumbersAreDecimals, WordsBehindNeverMatter};
 
 mod comments;

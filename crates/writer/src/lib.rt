@@ -1,4 +1,6 @@
 // Formulas written out as tidy text, into a lent buffer.
+#![tactic(auto)]
+
 ghost use Rattle.std.specs.Prelude.{◌≡◌};
 ghost use Rattle.writer.specs.Back.{ReadsBack, WrittenReadsBack};
 ghost use Rattle.writer.specs.Examples.{Examples};

@@ -1,4 +1,4 @@
-use Rattle.std.proofs.Common.{◌≡◌, sym, refl, ap, ◌∙◌, arith}
+use Rattle.std.proofs.Common.{◌∙◌, arith}
 use Rattle.grammar.proofs.Outcomes.{meaning_of}
 use Rattle.reading.proofs.Starting.{fresh_stands}
 use Rattle.text.proofs.Reading.{starts, goes_on, holds, reads, no_fault, outlined}

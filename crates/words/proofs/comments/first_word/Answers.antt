@@ -1,4 +1,4 @@
-use Rattle.std.proofs.Common.{[], length, ap, ◌∙◌, arith}
+use Rattle.std.proofs.Common.{[], ap, ◌∙◌, arith}
 use Rattle.words.specs.Words.{words_from}
 use Rattle.words.specs.Regions.{region_of}
 use Rattle.words.proofs.Regions.{is_body, front_more, front_stop, front_all}

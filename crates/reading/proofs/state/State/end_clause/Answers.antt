@@ -1,4 +1,4 @@
-use Rattle.std.proofs.Common.{◌≡◌, sym, refl, ◌∙◌, arith}
+use Rattle.std.proofs.Common.{sym, refl, ◌∙◌, arith}
 use Rattle.reading.specs.Stands.{sizes}
 use Rattle.reading.proofs.Clauses.{with_end}
 use Rattle.reading.proofs.Numbers.{end_fits}

@@ -1,4 +1,4 @@
-use Rattle.std.proofs.Common.{◌≡◌, sym, refl, ◌∙◌, arith}
+use Rattle.std.proofs.Common.{sym, refl, ◌∙◌, arith}
 use Rattle.reading.specs.Stands.{sizes}
 use Rattle.reading.proofs.Letters.{late, repeated, turning, few, opened}
 use Rattle.reading.proofs.state.State.open_block.Goals as goal

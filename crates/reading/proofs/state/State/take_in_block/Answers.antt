@@ -1,4 +1,4 @@
-use Rattle.std.proofs.Common.{◌≡◌, ◌⊎◌, Some, sym, refl, ap, ◌∙◌, inl, inr, arith}
+use Rattle.std.proofs.Common.{Some, sym, refl, ap, ◌∙◌, inl, inr, arith}
 use Rattle.grammar.specs.Next.{sort, size}
 use Rattle.reading.specs.Stands.{sizes}
 use Rattle.reading.proofs.Bindings.{misbound, well_bound, bound}
