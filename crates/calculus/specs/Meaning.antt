@@ -4,7 +4,7 @@ use Rattle.std.proofs.Math.Logic.{∥∥₁_elim, ∥∥₁_prop}
 use mathlib.Core.HLevel.{Π_prop, ⊥_prop, ×_prop, Unit-prop}
 use Rattle.std.proofs.Math.Bridge.{le_prop}
 use base.Stored.{Coded-set, coded_ℕ}
-use Rattle.std.specs.List.{AllByRecursion as All}
+use Rattle.std.specs.List.{AllByRecursion}
 
 -- variable v has its level (1 is outermost) and its quantifier (1 existential, 2 universal) at place v; place 0 holds 0
 pub record Meaning : Type 0 where
@@ -39,7 +39,7 @@ Code n l = (2 ≤ l) × (l < 2 * (n + 1))
 
 -- a clause over the variables 1 to n: at most 1,024 codes; it may be empty, repeat a literal or be tautological
 abbrev pub Clause : ℕ → List ℕ → Type 0
-Clause n C = (length C ≤ 1024) × All (Code n) C
+Clause n C = (length C ≤ 1024) × AllByRecursion (Code n) C
 
 -- 1 to 512 variables; levels from 1 with none empty; one quantifier a level; neighbouring levels differ
 pub record Prefix (n : ℕ) (levels quantifiers : List ℕ) : Type 0 where
@@ -60,13 +60,13 @@ pub record Prefix (n : ℕ) (levels quantifiers : List ℕ) : Type 0 where
 pub record Formed (m : Meaning) : Type 0 where
   pub prefix : Prefix m.n m.levels m.quantifiers
   pub few_clauses : length m.clauses ≤ 2048
-  pub clauses : All (Clause m.n) m.clauses
+  pub clauses : AllByRecursion (Clause m.n) m.clauses
   deriving IsProp as formed_by
 
 eq_prop : (x y : ℕ) → IsProp (x ≡ y)
 eq_prop x y = Coded-set coded_ℕ x y
 
-all_prop : {X : Type 0} (P : X → Type 0) → ((x : X) → IsProp (P x)) → (xs : List X) → IsProp (All P xs)
+all_prop : {X : Type 0} (P : X → Type 0) → ((x : X) → IsProp (P x)) → (xs : List X) → IsProp (AllByRecursion P xs)
 all_prop P p [] = Unit-prop
 all_prop P p (x ∷ xs) = ×_prop (p x) (all_prop P p xs)
 

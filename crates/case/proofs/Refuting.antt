@@ -1,6 +1,6 @@
 -- Some list of calls ends with the verdict Refuted exactly if the formula is false.
 use Rattle.std.proofs.Common.{◌≡◌, ℕ, ◌≤◌, true, false, ◌↔◌, List, [], ◌∷◌, ◌++◌, map, length, sym, refl, ap, ◌∙◌, subst, ap₂, inl}
-use Rattle.std.specs.List.{AllByRecursion as All}
+use Rattle.std.specs.List.{AllByRecursion}
 use Rattle.std.proofs.lemmas.List.{map_push}
 use Rattle.calculus.specs.Meaning.{Meaning, Formed}
 use Rattle.calculus.specs.Sets.{◌∈◌}
@@ -27,7 +27,7 @@ call_of (resolution i j v) p = (Resolution i j v, refl)
 call_of (reduction i v) p = (Reduction i v, refl)
 call_of (symmetry i card) p = absurd p
 
-calls_of : (ls : List Line) → All Plain ls → (cs : List Call) × (map meant_call cs ≡ map claims ls)
+calls_of : (ls : List Line) → AllByRecursion Plain ls → (cs : List Call) × (map meant_call cs ≡ map claims ls)
 calls_of [] ps = ([], refl)
 calls_of (l ∷ ls) (p, ps) =
     let (c, e) = call_of l p in

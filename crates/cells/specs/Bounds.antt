@@ -1,7 +1,7 @@
 -- A cell shelf keeps to the bounds of a shelf.
 use Rattle.std.specs.Prelude.{◌≡◌, ℕ, suc, ◌<◌, List, [], ◌∷◌, length, slice_index_or, refl}
 use Rattle.std.proofs.Common.{ap, arith, length-append, length-take}
-use Rattle.std.specs.List.{AllByRecursion as All}
+use Rattle.std.specs.List.{AllByRecursion}
 use Rattle.laws.specs.Store.{weights}
 use Rattle.shelf.specs.Proper.{Proper, proper_out}
 use Rattle.shelf.specs.Shelved.{Sound}
@@ -15,7 +15,7 @@ flat_weighs n [] = refl
 flat_weighs n (C ∷ Cs) = omega (arith, flat_weighs n Cs, length-append C (flat Cs))
 
 -- what holds at each place holds of all
-pub all_places : {A : Type 0} (P : A → Type 0) (d : A) (xs : List A) → ((p : ℕ) → p < length xs → P (slice_index_or xs p d)) → All P xs
+pub all_places : {A : Type 0} (P : A → Type 0) (d : A) (xs : List A) → ((p : ℕ) → p < length xs → P (slice_index_or xs p d)) → AllByRecursion P xs
 all_places P d [] h = tt
 all_places P d (x ∷ xs) h = (h 0 (omega arith), all_places P d xs (λ p lt. h (suc p) (omega arith)))
 

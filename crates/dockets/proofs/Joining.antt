@@ -2,7 +2,7 @@
 use Rattle.std.proofs.Common.{◌≡◌, ℕ, zero, suc, ◌+◌, ◌<◌, ◌≤◌, List, [], ◌∷◌, ◌++◌, length, get_or, take, drop, sym, refl, ap, ◌∙◌, append_assoc, arith, length-append, length-drop, take-append-drop, take_all, drop-drop, take-add}
 use mathlib.Core.List.{append_cancel_left}
 use lib.Seq.{drop-append-add}
-use Rattle.std.specs.List.{AllByRecursion as All}
+use Rattle.std.specs.List.{AllByRecursion}
 use Rattle.std.proofs.ByRecursion.{All-get_or}
 use Rattle.std.proofs.lemmas.List.{flat_map_more, take_more}
 use Rattle.dockets.specs.Encoding.{Entry, axiom_entry, resolution_entry, reduction_entry, symmetry_entry, encoded, encoded_all, Writable}
@@ -26,7 +26,7 @@ prefix_free x y a b v w e =
     (same, append_cancel_left (encoded x) a b (e ∙ ap (λ z. encoded z ++ b) (sym same)))
 
 -- entries whose bytes are a front of those of others are a front of those
-pub front_of : (xs ys : List Entry) (a : List ℕ) → All Writable xs → All Writable ys → encoded_all xs ++ a ≡ encoded_all ys
+pub front_of : (xs ys : List Entry) (a : List ℕ) → AllByRecursion Writable xs → AllByRecursion Writable ys → encoded_all xs ++ a ≡ encoded_all ys
     → (zs : List Entry) × (ys ≡ xs ++ zs) × (a ≡ encoded_all zs)
 front_of [] ys a v w e = (ys, refl, e)
 front_of (x ∷ xs) [] a v w e =
@@ -36,7 +36,7 @@ front_of (x ∷ xs) (y ∷ ys) a (v, vs) (w, ws) e =
     let (zs, is, more) = front_of xs ys a vs ws p.1 in
     (zs, λ i. sym p.0 i ∷ is i, more)
 
-pub same_entries : (xs ys : List Entry) → All Writable xs → All Writable ys → encoded_all xs ≡ encoded_all ys → xs ≡ ys
+pub same_entries : (xs ys : List Entry) → AllByRecursion Writable xs → AllByRecursion Writable ys → encoded_all xs ≡ encoded_all ys → xs ≡ ys
 same_entries [] [] v w e = refl
 same_entries [] (y ∷ ys) v w e = absurd (omega (arith, some_bytes y, length-append (encoded y) (encoded_all ys), ap length e))
 same_entries (x ∷ xs) [] v w e = absurd (omega (arith, some_bytes x, length-append (encoded x) (encoded_all xs), ap length e))
@@ -68,7 +68,7 @@ line_stands (x ∷ xs) rest (suc i) d h =
     ∙ (drop-append-add (encoded x) (encoded_all xs ++ rest) (offset xs i) ∙ line_stands xs rest i d (omega arith))
 
 -- and is read there, and the next line stands where it ends
-module _ (before : List ℕ) (entries : List Entry) (behind : List ℕ) (all : All Writable entries) (i : ℕ) (d : Entry) (h : i < length entries) where
+module _ (before : List ℕ) (entries : List Entry) (behind : List ℕ) (all : AllByRecursion Writable entries) (i : ℕ) (d : Entry) (h : i < length entries) where
   pub line_read : Reads (before ++ (encoded_all entries ++ behind)) (length before + offset entries i) (get_or entries i d)
   line_read =
       reads (before ++ (encoded_all entries ++ behind)) (length before + offset entries i) (get_or entries i d) (encoded_all (drop (suc i) entries) ++ behind)
@@ -78,7 +78,7 @@ module _ (before : List ℕ) (entries : List Entry) (behind : List ℕ) (all : A
   next_line = omega (arith, line_read.length_is, offset_more entries i d h)
 
 -- one line off a docket of bytes
-module _ (docket : List ℕ) (bytes : All (λ b. b < 256) docket) (at : ℕ) (holds : Hold (line_checks docket at)) where
+module _ (docket : List ℕ) (bytes : AllByRecursion (λ b. b < 256) docket) (at : ℕ) (holds : Hold (line_checks docket at)) where
   abbrev written : WrittenSo docket at
   written = encoding docket bytes at holds
 

@@ -1,6 +1,6 @@
 -- A line that is read is its entry as it is written, byte for byte.
 use Rattle.std.proofs.Common.{◌≡◌, ℕ, zero, suc, ◌+◌, ◌-◌, ◌*◌, ◌/◌, ◌%◌, ◌<◌, ◌≤◌, List, [], ◌∷◌, ◌++◌, map, length, get_or, take, drop, sym, refl, ap, ◌∙◌, ⊎_elim, arith}
-use Rattle.std.specs.List.{range_with_len, flat_map, AllByRecursion as All}
+use Rattle.std.specs.List.{range_with_len, flat_map, AllByRecursion}
 use Rattle.std.proofs.lemmas.List.FromFn.{length-map-range_with_len}
 use Rattle.std.proofs.lemmas.List.{drop_more}
 use Rattle.std.proofs.lemmas.Bool.{cases_eq}
@@ -11,7 +11,7 @@ use Rattle.dockets.specs.Theorems.{EncodingUndoesDecoding}
 use Rattle.dockets.proofs.MapBytes.{Byte, byte_is}
 use Rattle.dockets.proofs.Checks.{hold_parts, pairs_held, naming_held}
 
-byte_below : (docket : List ℕ) → All (λ b. b < 256) docket → (i : ℕ) → get_or docket i 0 < 256
+byte_below : (docket : List ℕ) → AllByRecursion (λ b. b < 256) docket → (i : ℕ) → get_or docket i 0 < 256
 byte_below [] all i = omega arith
 byte_below (b ∷ docket) (here, all) zero = here
 byte_below (b ∷ docket) (here, all) (suc i) = byte_below docket all i
@@ -42,7 +42,7 @@ module _ (docket : List ℕ) (place : ℕ) (holds : Hold (card_checks docket pla
   pairs_there =
       ⊎_elim (λ e. omega (arith, holds.0)) (λ some. let c = each (field_at docket place - 1) (omega arith) in omega (arith, c.1.1.0)) (cases_eq (field_at docket place) 0)
 
-module _ (docket : List ℕ) (bytes : All (λ b. b < 256) docket) where
+module _ (docket : List ℕ) (bytes : AllByRecursion (λ b. b < 256) docket) where
   field_fits : (byte : ℕ) → Fits (field_at docket byte)
   field_fits byte = omega (arith, byte_below docket bytes byte, byte_below docket bytes (byte + 1))
 

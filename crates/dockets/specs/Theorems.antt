@@ -1,6 +1,6 @@
 -- What is proved of the format: decoding and encoding undo each other, and every place of every docket has one outcome.
 use Rattle.std.specs.Prelude.{◌≡◌, ℕ, ◌<◌, ◌⊎◌, List, ◌++◌, length, take, drop}
-use Rattle.std.specs.List.{AllByRecursion as All}
+use Rattle.std.specs.List.{AllByRecursion}
 use Rattle.dockets.specs.Encoding.{Entry, encoded, Writable}
 use Rattle.dockets.specs.Reading.{line_checks, Hold, FailsAt, entry_at, length_at}
 use Rattle.dockets.specs.declared.fault.LineFault.{LineFault}
@@ -20,7 +20,7 @@ pub record WrittenSo (docket : List ℕ) (at : ℕ) : Type 0 where
   pub bytes : take (length_at docket at) (drop at docket) ≡ encoded (entry_at docket at)
 
 abbrev pub EncodingUndoesDecoding : Type 0
-EncodingUndoesDecoding = (docket : List ℕ) → All (λ b. b < 256) docket → (at : ℕ) → Hold (line_checks docket at) → WrittenSo docket at
+EncodingUndoesDecoding = (docket : List ℕ) → AllByRecursion (λ b. b < 256) docket → (at : ℕ) → Hold (line_checks docket at) → WrittenSo docket at
 
 -- at each place of a docket there is a line, or there is one first fault
 pub record OneOutcome (docket : List ℕ) (at : ℕ) : Type 0 where

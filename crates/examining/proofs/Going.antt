@@ -1,6 +1,6 @@
 -- Lines granted one after the other: where they lead, and how examining ends from there.
 use Rattle.std.proofs.Common.{◌≡◌, ℕ, ◌<◌, ◌≤◌, true, false, List, [], ◌∷◌, ◌++◌, length, get_or, take, drop, Ok, Err, Result, sym, refl, ap, ◌∙◌, subst, append_assoc, append-nil, arith, length-drop, take-append-drop, length-take, take_all}
-use Rattle.std.specs.List.{AllByRecursion as All}
+use Rattle.std.specs.List.{AllByRecursion}
 use Rattle.std.proofs.ByRecursion.{All-append, All-from_get_or}
 use Rattle.calculus.specs.Meaning.{Formed}
 use Rattle.calculus.specs.Truth.{truth}
@@ -24,7 +24,7 @@ use Rattle.examining.specs.Steps.{LineGranted, NextReported}
 pub record Came (s : Standing) (docket : List ℕ) (at : ℕ) (t : Standing) : Type 0 where
   pub within : at ≤ length docket
   pub entries : List Entry
-  pub writable : All Writable entries
+  pub writable : AllByRecursion Writable entries
   pub front : take at docket ≡ encoded_all entries
   pub granted : GrantedEach s entries t
 
@@ -42,7 +42,7 @@ pub came_more :
     (s : Standing) (docket : List ℕ) (at : ℕ) (t : Standing) (next : ℕ) (u : Standing) → Came s docket at t → ((k : ℕ) → get_or docket k 0 < 256) →
     LineGranted t docket at next u → Came s docket next u
 came_more s docket at t next u came below (holds, e, (line, p, c, h)) =
-    let bytes : All (λ b. b < 256) docket = All-from_get_or (λ b. b < 256) docket 0 (λ k lt. below k) in record {
+    let bytes : AllByRecursion (λ b. b < 256) docket = All-from_get_or (λ b. b < 256) docket 0 (λ k lt. below k) in record {
       within = omega (arith, line_ends docket bytes at holds);
       entries = came.entries ++ (entry_at docket at ∷ []);
       writable = All-append Writable came.entries (entry_at docket at ∷ []) came.writable ((encoding docket bytes at holds).writable, tt);

@@ -1,7 +1,7 @@
 -- Examining comes to one end only: two runs of granted lines that each stop where the docket ends or has a fault are the same run.
 use Rattle.std.proofs.Common.{◌≡◌, ℕ, ◌+◌, ◌<◌, List, [], ◌∷◌, ◌++◌, length, drop, Ok, Err, Result, sym, refl, ap, ◌∙◌, subst, append_assoc, arith, length-append, drop-drop}
 use lib.Seq.{drop-append_seam}
-use Rattle.std.specs.List.{AllByRecursion as All}
+use Rattle.std.specs.List.{AllByRecursion}
 use Rattle.laws.specs.Lines.{Line}
 use Rattle.case.specs.Claimed.{Claimed}
 use Rattle.case.specs.Standing.{Standing}
@@ -60,7 +60,7 @@ module _ (docket : List ℕ) (at : ℕ) (t : Standing) where
 -- from an offset on
 ends :
     (docket : List ℕ) (at : ℕ) (s : Standing) (xs ys : List Entry) (a b : List ℕ) (r r' : Result (Unit {0}) ReportFault) (t t' : Standing) →
-    drop at docket ≡ encoded_all xs ++ a → drop at docket ≡ encoded_all ys ++ b → All Writable xs → All Writable ys → GrantedEach s xs t → GrantedEach s ys t' →
+    drop at docket ≡ encoded_all xs ++ a → drop at docket ≡ encoded_all ys ++ b → AllByRecursion Writable xs → AllByRecursion Writable ys → GrantedEach s xs t → GrantedEach s ys t' →
     Stops docket (at + length (encoded_all xs)) a t r → Stops docket (at + length (encoded_all ys)) b t' r' → (r ≡ r') × (t ≡ t')
 ends docket at s [] [] a b r r' t t' e f v w g h i j =
     let same : t ≡ t' = g ∙ sym h in

@@ -1,6 +1,6 @@
 -- What examining a docket on a case comes to.
 use Rattle.std.specs.Prelude.{◌≡◌, ℕ, ◌<◌, true, false, List, [], ◌++◌, length, Ok, Err, Result}
-use Rattle.std.specs.List.{AllByRecursion as All}
+use Rattle.std.specs.List.{AllByRecursion}
 use Rattle.calculus.specs.Truth.{truth}
 use Rattle.laws.specs.Lines.{Line}
 use Rattle.laws.specs.Runs.{Call}
@@ -16,7 +16,7 @@ use Rattle.examining.specs.Entries.{Claims, GrantedEach}
 
 -- the docket begins with these entries, whose claims are all granted and lead from s to t; the rest is behind them
 pub record Begins (s : Standing) (docket : List ℕ) (entries : List Entry) (rest : List ℕ) (t : Standing) : Type 0 where
-  pub writable : All Writable entries
+  pub writable : AllByRecursion Writable entries
   pub bytes : docket ≡ encoded_all entries ++ rest
   pub granted : GrantedEach s entries t
 

@@ -1,7 +1,7 @@
 -- A lawful prefix and lawful clauses make a well-formed formula.
 use Rattle.std.proofs.Common.{◌≡◌, ℕ, suc, ◌+◌, ◌≤◌, List, [], ◌∷◌, map, reverse, length, get_or, sym, ap, ◌∙◌, subst, arith}
 use mathlib.Core.List.{reverse-cons}
-use Rattle.std.specs.List.{range_with_len, AllByRecursion as All}
+use Rattle.std.specs.List.{range_with_len, AllByRecursion}
 use Rattle.std.proofs.lemmas.List.{length-reverse, length-map}
 use Rattle.std.proofs.ByRecursion.{All-push, All-map, All-weaker}
 use Rattle.std.proofs.lemmas.List.FromFn.{length-map-range_with_len, get_or-map-range_with_len}
@@ -46,7 +46,7 @@ prefix_formed n bs h bound low high = record {
     quantifier v x = listed (quantifier_in bs) n v x ∙ quantifier_by_level bs v
 
 -- what holds of each element holds of each the other way round
-pub all_reverse : {X : Type 0} (P : X → Type 0) (xs : List X) → All P xs → All P (reverse xs)
+pub all_reverse : {X : Type 0} (P : X → Type 0) (xs : List X) → AllByRecursion P xs → AllByRecursion P (reverse xs)
 all_reverse P [] h = tt
 all_reverse P (x ∷ xs) h = rw (reverse-cons x xs) (All-push P (reverse xs) x (all_reverse P xs h.1) h.0)
 
@@ -57,7 +57,7 @@ clause_reverse n C h = (rw (length-reverse C) h.0, all_reverse (Code n) C h.1)
 -- a lawful draft in which every variable is bound is a well-formed formula
 pub read_formed :
     (n : ℕ) (bs : List Block) (Cs : List (List ℕ)) → Blocks n bs → AllBound n bs → 1 ≤ n → n ≤ 512 →
-    length Cs ≤ 2048 → All (Clause n) Cs → Formed (formula_of n bs Cs)
+    length Cs ≤ 2048 → AllByRecursion (Clause n) Cs → Formed (formula_of n bs Cs)
 read_formed n bs Cs h bound low high few all = record {
   prefix = prefix_formed n bs h bound low high;
   few_clauses = rw (length-reverse (map reverse Cs), length-map Cs reverse) few;

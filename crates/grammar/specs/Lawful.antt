@@ -1,6 +1,6 @@
 -- Which drafts break no rule so far.
 use Rattle.std.specs.Prelude.{◌≡◌, ℕ, ◌+◌, ◌<◌, ◌≤◌, List, [], ◌∷◌, length, sum_by}
-use Rattle.std.specs.List.{AllByRecursion as All}
+use Rattle.std.specs.List.{AllByRecursion}
 use Rattle.calculus.specs.Meaning.{Variable, Clause}
 use Rattle.grammar.specs.Draft.{Block, Draft, nothing, problem, format, sized, binding, matrix, level_in}
 
@@ -49,7 +49,7 @@ Begun Cs C = 1 ≤ length Cs + length C
 -- at most m clauses within the limits and the cells; before the first of their words every variable is bound
 pub record Clauses (S : Sizes) (n m : ℕ) (bs : List Block) (Cs : List (List ℕ)) (C : List ℕ) : Type 0 where
   pub bound : Begun Cs C → AllBound n bs
-  pub ended : All (Clause n) Cs
+  pub ended : AllByRecursion (Clause n) Cs
   pub open_clause : Clause n C
   pub few : length Cs ≤ m
   pub one_more : 1 ≤ length C → length Cs < m

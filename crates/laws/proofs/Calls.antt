@@ -1,6 +1,6 @@
 -- The laws over any list of calls.
 use Rattle.std.proofs.Common.{◌≡◌, ℕ, suc, ◌+◌, ◌*◌, ◌<◌, ◌≤◌, Bool, true, ◌⊎◌, List, [], ◌∷◌, ◌++◌, map, length, sym, refl, ap, ◌∙◌, subst, ap₂, inl, inr, ⊎_elim, append_assoc, mul-le-mul_right, suc-mul, mul-le-mul_left, arith}
-use Rattle.std.specs.List.{range_with_len, AllByRecursion as All}
+use Rattle.std.specs.List.{range_with_len, AllByRecursion}
 use Rattle.std.proofs.lemmas.List.{append-nil, length_push, same_from_push}
 use Rattle.calculus.specs.Sets.{◌∈◌}
 use Rattle.calculus.specs.Meaning.{Meaning, Formed}
@@ -120,7 +120,7 @@ module _ (S : Store) (m : Meaning) where
 
   module _ (ample : Ample S) where
     abbrev Short : List (List ℕ) → Type 0
-    Short Cs = All (λ C. length C ≤ 12) Cs
+    Short Cs = AllByRecursion (λ C. length C ≤ 12) Cs
 
     light : (kept : List (List ℕ)) → Short kept → weights S kept ≤ length kept * (S.base + S.rate * 12)
     light [] s = omega arith

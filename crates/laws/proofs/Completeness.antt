@@ -1,6 +1,6 @@
 -- The lines that are found for a false formula derive the empty clause, with one line at most for each node of the tree of settings.
 use Rattle.std.proofs.Common.{◌≡◌, ℕ, zero, suc, ◌+◌, ◌*◌, ◌<◌, ◌≤◌, Bool, false, cond, ◌&&◌, ◌||◌, eqb, ◌⊎◌, List, [], ◌∷◌, ◌++◌, length, get_or, sym, refl, ap, ◌∙◌, subst, inl, inr, ⊎_elim, true≢false, append_assoc, le_trans, arith, length-append}
-use Rattle.std.specs.List.{AllByRecursion as All}
+use Rattle.std.specs.List.{AllByRecursion}
 use Rattle.std.proofs.lemmas.Bool.{cond_both, eqb-true, eqb-false, cond-true, cond-false, both_ways, and_cases, or_parts}
 use Rattle.calculus.specs.Sets.{◌∈◌, has}
 use Rattle.calculus.specs.Literals.{var, neg}
@@ -95,7 +95,7 @@ module _ (F : Meaning) (formed : Formed F) where
   -- a part that follows the clauses kept, and ends in a clause that the setting makes false
   record Right (α : Setting) (kept : List (List ℕ)) (a : Part) (n : ℕ) : Type 0 where
     follows : Follows F kept a.lines (kept_of a)
-    plain : All Plain a.lines
+    plain : AllByRecursion Plain a.lines
     few : length a.lines ≤ n
     falsified : Falsified α a.clause
     ascending : Ascending a.clause
@@ -304,7 +304,7 @@ module _ (F : Meaning) (formed : Formed F) where
   -- the lines that are found, and that they end in the empty clause
   pub record Refuting : Type 0 where
     pub follows : Follows F [] (refutation_of F).lines (kept_of (refutation_of F))
-    pub plain : All Plain (refutation_of F).lines
+    pub plain : AllByRecursion Plain (refutation_of F).lines
     pub few : length (refutation_of F).lines ≤ full F.n
     pub ends : (refutation_of F).clause ≡ []
     pub none_empty : NoneEmpty (refutation_of F).front

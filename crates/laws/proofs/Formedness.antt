@@ -1,6 +1,6 @@
 -- What the proofs use of a well-formed formula.
 use Rattle.std.proofs.Common.{◌≡◌, ℕ, ◌<◌, ◌≤◌, ◌⊎◌, List, [], ◌∷◌, sym, refl, ap, ◌∙◌, subst, inl, inr, ⊎_elim, arith}
-use Rattle.std.specs.List.{AllByRecursion as All}
+use Rattle.std.specs.List.{AllByRecursion}
 use Rattle.std.proofs.lemmas.Bool.{cases_eq, cases_lt}
 use Rattle.std.proofs.lemmas.List.{get_or_past}
 use Rattle.calculus.specs.Sets.{◌∈◌}
@@ -8,12 +8,12 @@ use Rattle.calculus.specs.Literals.{var}
 use Rattle.calculus.specs.Meaning.{Meaning, Formed, Variable, Code, Clause, level_of, quantifier_of}
 
 -- what holds of all elements holds of each
-pub all_in : {A : Type 0} (P : A → Type 0) (xs : List A) (x : A) → All P xs → x ∈ xs → P x
+pub all_in : {A : Type 0} (P : A → Type 0) (xs : List A) (x : A) → AllByRecursion P xs → x ∈ xs → P x
 all_in P [] x a m = absurd m
 all_in P (y ∷ ys) x a (inl e) = subst P (sym e) a.0
 all_in P (y ∷ ys) x a (inr m) = all_in P ys x a.1 m
 
-pub all_from : {A : Type 0} (P : A → Type 0) (xs : List A) → ((x : A) → x ∈ xs → P x) → All P xs
+pub all_from : {A : Type 0} (P : A → Type 0) (xs : List A) → ((x : A) → x ∈ xs → P x) → AllByRecursion P xs
 all_from P [] h = tt
 all_from P (y ∷ ys) h = (h y (inl refl), all_from P ys (λ x m. h x (inr m)))
 

@@ -1,6 +1,6 @@
 -- The images of lines under a symmetry are lines of a derivation.
 use Rattle.std.proofs.Common.{◌≡◌, ℕ, zero, suc, ◌+◌, ◌*◌, ◌%◌, ◌<◌, eqb, List, [], ◌∷◌, ◌++◌, map, length, get_or, take, sym, ap, ◌∙◌, subst, ⊎_elim, append_assoc, arith, length-append}
-use Rattle.std.specs.List.{AllByRecursion as All}
+use Rattle.std.specs.List.{AllByRecursion}
 use Rattle.std.proofs.lemmas.Bool.{cond_both, eqb-true, eqb-false, both_ways}
 use Rattle.std.proofs.lemmas.List.{append-nil, get_or-append-add, get_or-map, get_or-take, length-map, length-take-le, map_push}
 use Rattle.calculus.specs.Sets.{◌∈◌, Same}
@@ -36,7 +36,7 @@ take_follows m kept (suc k) [] (C ∷ Cs) r = absurd r
 take_follows m kept (suc k) (l ∷ ls) [] r = absurd r
 take_follows m kept (suc k) (l ∷ ls) (C ∷ Cs) r = (r.0, take_follows m (kept ++ (C ∷ [])) k ls Cs r.1)
 
-all_take : {A : Type 0} (P : A → Type 0) (k : ℕ) (xs : List A) → All P xs → All P (take k xs)
+all_take : {A : Type 0} (P : A → Type 0) (k : ℕ) (xs : List A) → AllByRecursion P xs → AllByRecursion P (take k xs)
 all_take P zero xs a = tt
 all_take P (suc k) [] a = tt
 all_take P (suc k) (x ∷ xs) a = (a.0, all_take P k xs a.1)
@@ -49,7 +49,7 @@ module _ (m : Meaning) (card : Card) where
   image_plain shift (reduction p v) w = tt
   image_plain shift (symmetry p other) w = absurd w
 
-  images_plain : (shift : ℕ) (ls : List Line) → All Plain ls → All Plain (image_lines m card shift ls)
+  images_plain : (shift : ℕ) (ls : List Line) → AllByRecursion Plain ls → AllByRecursion Plain (image_lines m card shift ls)
   images_plain shift [] a = tt
   images_plain shift (l ∷ ls) a = (image_plain shift l a.0, images_plain shift ls a.1)
 
@@ -141,7 +141,7 @@ module _ (m : Meaning) (card : Card) where
     permits_image kept done (symmetry p other) C w h = absurd w
 
     images_follow :
-        (kept done : List (List ℕ)) (ls : List Line) (Cs : List (List ℕ)) → All Plain ls → Follows m done ls Cs →
+        (kept done : List (List ℕ)) (ls : List Line) (Cs : List (List ℕ)) → AllByRecursion Plain ls → Follows m done ls Cs →
         Follows m (kept ++ image_clauses card done) (image_lines m card (length kept) ls) (image_clauses card Cs)
     images_follow kept done [] [] w r = tt
     images_follow kept done [] (C ∷ Cs) w r = absurd r

@@ -1,6 +1,6 @@
 -- Between derivations and trees: each line's clause has a tree, and a tree is written out as lines.
 use Rattle.std.proofs.Common.{◌≡◌, ℕ, ◌+◌, ◌*◌, ◌<◌, ◌⊎◌, List, [], ◌∷◌, ◌++◌, length, get_or, sym, refl, ap, ◌∙◌, subst, inl, inr, ⊎_elim, append_assoc, arith, length-append}
-use Rattle.std.specs.List.{AllByRecursion as All}
+use Rattle.std.specs.List.{AllByRecursion}
 use Rattle.std.proofs.lemmas.List.{append-nil, get_or_append_left, get_or-append-add, get_or_push, length_push}
 use Rattle.calculus.specs.Sets.{◌∈◌, Same}
 use Rattle.calculus.specs.Literals.{var, neg}
@@ -42,7 +42,7 @@ kept_last kept front C = (
   get_or-append-add kept (front ++ (C ∷ [])) (length front) [] ∙ get_or_push front C [] (length front) refl,
 )
 
-pub all_append : {A : Type 0} (P : A → Type 0) (xs ys : List A) → All P xs → All P ys → All P (xs ++ ys)
+pub all_append : {A : Type 0} (P : A → Type 0) (xs ys : List A) → AllByRecursion P xs → AllByRecursion P ys → AllByRecursion P (xs ++ ys)
 all_append P [] ys a b = b
 all_append P (x ∷ xs) ys a b = (a.0, all_append P xs ys a.1 b)
 
@@ -187,7 +187,7 @@ module _ (F : Meaning) (formed : Formed F) where
     lines : List Line
     front : List (List ℕ)
     follows : Follows F kept lines (front ++ (C ∷ []))
-    plain : All Plain lines
+    plain : AllByRecursion Plain lines
 
   two_lines :
       (P Q C : List ℕ) (line : ℕ → ℕ → Line) → ((p q : ℕ) → Plain (line p q)) →

@@ -1,6 +1,6 @@
 -- Derivations, line by line, and what can be derived.
 use Rattle.std.specs.Prelude.{ℕ, ◌<◌, List, [], ◌∷◌, ◌++◌, length, slice_index_or}
-use Rattle.std.specs.List.{AllByRecursion as All}
+use Rattle.std.specs.List.{AllByRecursion}
 use Rattle.calculus.specs.Sets.{◌∈◌, Same}
 use Rattle.calculus.specs.Literals.{Tautological}
 use Rattle.calculus.specs.Meaning.{Meaning, Variable, clause_of}
@@ -45,4 +45,4 @@ Derivable m C = (lines : List Line) × (clauses : List (List ℕ)) × Derivation
 
 -- some derivation without symmetry lines keeps C
 abbrev pub DerivablePlainly : Meaning → List ℕ → Type 0
-DerivablePlainly m C = (lines : List Line) × (clauses : List (List ℕ)) × Derivation m lines clauses × All Plain lines × (C ∈ clauses)
+DerivablePlainly m C = (lines : List Line) × (clauses : List (List ℕ)) × Derivation m lines clauses × AllByRecursion Plain lines × (C ∈ clauses)

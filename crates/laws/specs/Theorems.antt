@@ -1,6 +1,6 @@
 -- What is proved of the calculus.
 use Rattle.std.specs.Prelude.{◌≡◌, ℕ, suc, ◌<◌, ◌≤◌, false, List, [], length, take}
-use Rattle.std.specs.List.{AllByRecursion as All}
+use Rattle.std.specs.List.{AllByRecursion}
 use Rattle.calculus.specs.Sets.{◌∈◌}
 use Rattle.calculus.specs.Literals.{Tautological}
 use Rattle.calculus.specs.Meaning.{Meaning, Formed, Code}
@@ -16,7 +16,7 @@ use Rattle.laws.specs.Images.{image_lines, image_clauses}
 pub record ProperClause (m : Meaning) (C : List ℕ) : Type 0 where
   pub ascending : Ascending C
   pub tautology_free : Tautological C → ⊥
-  pub codes : All (Code m.n) C
+  pub codes : AllByRecursion (Code m.n) C
   pub few : length C ≤ m.n
 
 -- every clause that can be derived is such a clause
@@ -35,20 +35,20 @@ SymmetryAddsNothing = (m : Meaning) → Formed m → (C : List ℕ) → Derivabl
 -- they are no symmetry lines, and the last keeps what the symmetry line would
 pub record Unrolled (m : Meaning) (card : Card) (lines : List Line) (clauses : List (List ℕ)) (p : ℕ) (kept : List (List ℕ)) : Type 0 where
   pub follows : Follows m kept (image_lines m card (length kept) (take (suc p) lines)) (image_clauses card (take (suc p) clauses))
-  pub plain : All Plain (image_lines m card (length kept) (take (suc p) lines))
+  pub plain : AllByRecursion Plain (image_lines m card (length kept) (take (suc p) lines))
   pub last : Gives m clauses (symmetry p card) (line_of (image_clauses card (take (suc p) clauses)) p)
 
 abbrev pub ImagesDerive : Type 0
 ImagesDerive =
     (m : Meaning) → Formed m → (card : Card) → Symmetry m card → (lines : List Line) (clauses : List (List ℕ)) → Derivation m lines clauses →
-    All Plain lines → (p : ℕ) → p < length lines → (kept : List (List ℕ)) → Unrolled m card lines clauses p kept
+    AllByRecursion Plain lines → (p : ℕ) → p < length lines → (kept : List (List ℕ)) → Unrolled m card lines clauses p kept
 
 -- a derivation of the empty clause without symmetry lines: at most 8,191 lines, of at most twelve literals each
 pub record Refutation (m : Meaning) (lines : List Line) (clauses : List (List ℕ)) : Type 0 where
   pub derivation : Derivation m lines clauses
-  pub plain : All Plain lines
+  pub plain : AllByRecursion Plain lines
   pub few : length lines ≤ 8191
-  pub short : All (λ C. length C ≤ 12) clauses
+  pub short : AllByRecursion (λ C. length C ≤ 12) clauses
   pub closed : [] ∈ clauses
 
 -- of a false formula of at most twelve variables, the lines that are found are such a derivation

@@ -1,6 +1,6 @@
 -- A clause is the list of the members of its set.
 use Rattle.std.proofs.Common.{◌≡◌, ℕ, true, List, is_some, Some, None, Option, refl, ap, ◌∙◌, subst, MatchOption}
-use Rattle.std.specs.List.{AllByRecursion as All}
+use Rattle.std.specs.List.{AllByRecursion}
 use Rattle.calculus.specs.Literals.{Tautological}
 use Rattle.calculus.specs.Meaning.{Code}
 use Rattle.laws.specs.Claims.{sorted}
@@ -11,7 +11,7 @@ use Rattle.sets.specs.declared.set.LiteralSet.{LiteralSet}
 
 -- o is what is answered for the set of these codes
 abbrev pub Made : List ℕ → Option LiteralSet → Type 0
-Made codes o = MatchOption o (All (Code 512) codes → ⊥) (λ s. All (Code 512) codes × (members s.words ≡ sorted codes))
+Made codes o = MatchOption o (AllByRecursion (Code 512) codes → ⊥) (λ s. AllByRecursion (Code 512) codes × (members s.words ≡ sorted codes))
 
 some_set : (C : List ℕ) (o : Option LiteralSet) → Proper C → Made C o → is_some o ≡ true
 some_set C (Some s) p m = refl

@@ -1,7 +1,7 @@
 -- Every row shelf keeps to the bounds of a shelf.
 use Rattle.std.specs.Prelude.{◌≡◌, ℕ, zero, suc, ◌+◌, ◌*◌, ◌/◌, ◌<◌, ◌≤◌, List, [], ◌∷◌, map, length, refl}
 use Rattle.std.proofs.Common.{arith}
-use Rattle.std.specs.List.{range_with_len, AllByRecursion as All}
+use Rattle.std.specs.List.{range_with_len, AllByRecursion}
 use Rattle.std.proofs.lemmas.List.FromFn.{length-map-range_with_len}
 use Rattle.calculus.specs.Literals.{Tautological}
 use Rattle.laws.specs.Store.{weights}
@@ -21,7 +21,7 @@ weights_rows n (C ∷ Cs) = omega (arith, weights_rows n Cs)
 pub proper_row : (words : List ℕ) → (Tautological (members words) → ⊥) → Proper (members words)
 proper_row words h = record { ascending = asc_members words; tautology_free = h; codes = codes_members words }
 
-all_counted : {X : Type 0} (P : X → Type 0) (f : ℕ → X) (a n : ℕ) → ((p : ℕ) → p < a + n → P (f p)) → All P (map f (range_with_len a n))
+all_counted : {X : Type 0} (P : X → Type 0) (f : ℕ → X) (a n : ℕ) → ((p : ℕ) → p < a + n → P (f p)) → AllByRecursion P (map f (range_with_len a n))
 all_counted P f a zero h = tt
 all_counted P f a (suc n) h = (h a (omega arith), all_counted P f (a + 1) n (λ p k. h p (omega arith)))
 

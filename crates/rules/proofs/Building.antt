@@ -1,6 +1,6 @@
 -- What a loop over the literals of a clause has put into a set so far, as a sorted list.
 use Rattle.std.proofs.Common.{◌≡◌, ℕ, ◌+◌, ◌*◌, ◌/◌, ◌<◌, ◌≤◌, Bool, true, false, cond, eqb, List, [], ◌∷◌, ◌++◌, map, length, get_or, take, sym, refl, ap, ◌∙◌, subst, append_assoc, append-nil, arith}
-use Rattle.std.specs.List.{AllByRecursion as All}
+use Rattle.std.specs.List.{AllByRecursion}
 use Rattle.std.proofs.ByRecursion.{All-get_or}
 use Rattle.std.proofs.lemmas.List.{take_more, take_all, map_push}
 use Rattle.std.proofs.lemmas.Bool.{eqb-true, eqb-false, eq-eqb, ne_eqb, cond-true, cond-false, cond_both}
@@ -14,7 +14,7 @@ use Rattle.shelf.specs.Proper.{Proper, proper_out}
 
 -- every literal of a clause is one
 pub code_at : (C xs : List ℕ) (i : ℕ) → ∥ Proper C ∥₁ → xs ≡ C → i < length xs → Code 512 (get_or xs i 0)
-code_at C xs i p e h = All-get_or (Code 512) xs i 0 h (subst (All (Code 512)) (sym e) (proper_out p).codes)
+code_at C xs i p e h = All-get_or (Code 512) xs i 0 h (subst (AllByRecursion (Code 512)) (sym e) (proper_out p).codes)
 
 -- where W is made of the U of each element, one element more
 module _ (W U : List ℕ → List ℕ) (made : (xs : List ℕ) (x : ℕ) → W (xs ++ x ∷ []) ≡ W xs ++ U (x ∷ [])) (xs ms : List ℕ) (i : ℕ) (so_far : ms ≡ sorted (W (take i xs))) where

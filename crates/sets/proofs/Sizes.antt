@@ -1,6 +1,6 @@
 -- How many literals a set has: at most 1,024, and at most 512 where no variable stands with both signs.
 use Rattle.std.proofs.Common.{◌≡◌, ℕ, zero, suc, ◌+◌, ◌*◌, ◌<◌, ◌≤◌, true, ◌⊎◌, List, length, ap, ◌∙◌, subst, inl, inr, ⊎_elim, arith}
-use Rattle.std.specs.List.{AllByRecursion as All}
+use Rattle.std.specs.List.{AllByRecursion}
 use Rattle.std.proofs.lemmas.List.{length_push}
 use Rattle.std.proofs.lemmas.Bool.{cases_Bool}
 use Rattle.calculus.specs.Sets.{◌∈◌}
@@ -51,8 +51,8 @@ module _ (words : List ℕ) where
   half_members free = half free 512 (omega arith)
 
 -- the same of ascending lists of literals
-pub few_codes : (C : List ℕ) → Ascending C → All (Code 512) C → length C ≤ 1024
+pub few_codes : (C : List ℕ) → Ascending C → AllByRecursion (Code 512) C → length C ≤ 1024
 few_codes C a c = subst (λ D. length D ≤ 1024) (members_of C a c) (few_members (words_of C))
 
-pub half_codes : (C : List ℕ) → Ascending C → All (Code 512) C → (Tautological C → ⊥) → length C ≤ 512
+pub half_codes : (C : List ℕ) → Ascending C → AllByRecursion (Code 512) C → (Tautological C → ⊥) → length C ≤ 512
 half_codes C a c free = subst (λ D. length D ≤ 512) (members_of C a c) (half_members (words_of C) (λ t. free (subst Tautological (members_of C a c) t)))

@@ -1,6 +1,6 @@
 -- Ascending lists of literals and sets of literals are the same thing.
 use Rattle.std.proofs.Common.{◌≡◌, ℕ, ◌+◌, ◌<◌, List, [], ◌∷◌, ◌++◌, length, get_or, take, replicate, sym, refl, ap, ◌∙◌, inl, inr, ⊎_elim, arith, length-set}
-use Rattle.std.specs.List.{AllByRecursion as All}
+use Rattle.std.specs.List.{AllByRecursion}
 use Rattle.std.proofs.ByRecursion.{All-get_or}
 use Rattle.std.proofs.lemmas.List.{take_more, get_or_past}
 use Rattle.std.proofs.lemmas.Bool.{cases_lt}
@@ -17,7 +17,7 @@ use Rattle.sets.specs.Steps.{with_bit}
 use Rattle.sets.proofs.Elements.{from_members, asc_members, inserted}
 
 -- all members are literals
-pub codes_members : (words : List ℕ) → All (Code 512) (members words)
+pub codes_members : (words : List ℕ) → AllByRecursion (Code 512) (members words)
 codes_members words = all_from (Code 512) (members words) (λ l i. (from_members words l i).0)
 
 -- sets with the same elements have the same list
@@ -43,13 +43,13 @@ unfolding words_of
 words_long [] = refl
 words_long (x ∷ xs) = length-set (words_of xs) _ _ ∙ words_long xs
 
-pub sorted_of : (xs : List ℕ) → All (Code 512) xs → members (words_of xs) ≡ sorted xs
+pub sorted_of : (xs : List ℕ) → AllByRecursion (Code 512) xs → members (words_of xs) ≡ sorted xs
 unfolding words_of
 sorted_of [] a = no_members
 sorted_of (x ∷ xs) a = inserted (words_of xs) x (words_long xs) a.0 ∙ ap (insert x) (sorted_of xs a.1)
 
 -- an ascending list of literals is the list of a set's members
-pub members_of : (xs : List ℕ) → Ascending xs → All (Code 512) xs → members (words_of xs) ≡ xs
+pub members_of : (xs : List ℕ) → Ascending xs → AllByRecursion (Code 512) xs → members (words_of xs) ≡ xs
 members_of xs a c = sorted_of xs c ∙ sorted_asc xs a
 
 -- one code after another

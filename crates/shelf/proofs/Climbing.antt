@@ -1,6 +1,6 @@
 -- A list is a clause exactly where its variables climb: each above the one before, the first above 0.
 use Rattle.std.proofs.Common.{◌≡◌, ℕ, zero, suc, ◌+◌, ◌<◌, ◌≤◌, List, [], ◌∷◌, length, get_or, take, sym, refl, ap, ◌∙◌, subst, inl, inr, ⊎_elim, arith}
-use Rattle.std.specs.List.{AllByRecursion as All}
+use Rattle.std.specs.List.{AllByRecursion}
 use Rattle.std.proofs.lemmas.Bool.{cases_eq}
 use Rattle.calculus.specs.Sets.{◌∈◌}
 use Rattle.calculus.specs.Literals.{var, neg, Tautological}
@@ -30,7 +30,7 @@ ascending : (a : ℕ) (C : List ℕ) → Climbs a C → Ascending C
 ascending a [] h = tt
 ascending a (l ∷ ls) (up, low, h) = (λ k m. let g : var l < var k = above l ls k h m in omega arith, ascending l ls h)
 
-codes : (a : ℕ) (C : List ℕ) → Climbs a C → All (Code 512) C
+codes : (a : ℕ) (C : List ℕ) → Climbs a C → AllByRecursion (Code 512) C
 codes a [] h = tt
 codes a (l ∷ ls) (up, low, h) = ((omega arith, low), codes l ls h)
 
@@ -42,7 +42,7 @@ climbs_proper C h = record {
   codes = codes 1 C h;
 }
 
-climbs : (a : ℕ) (C : List ℕ) → Ascending C → (Tautological C → ⊥) → All (Code 512) C → ((k : ℕ) → k ∈ C → var a < var k) → Climbs a C
+climbs : (a : ℕ) (C : List ℕ) → Ascending C → (Tautological C → ⊥) → AllByRecursion (Code 512) C → ((k : ℕ) → k ∈ C → var a < var k) → Climbs a C
 climbs a [] up free low first = tt
 climbs a (l ∷ ls) up free low first =
     (first l (inl refl), low.0.1, climbs l ls up.1 (λ t. free (t.0, inr t.1, inr t.2)) low.1 next)
@@ -52,7 +52,7 @@ climbs a (l ∷ ls) up free low first =
         let g : l < k = up.0 k m in
         ⊎_elim (λ e. absurd (free (l, inl refl, inr (subst (λ x. x ∈ ls) (omega (arith, neg_is l)) m)))) (λ n. omega arith) (cases_eq (var l) (var k))
 
-codes_above : (C : List ℕ) (k : ℕ) → All (Code 512) C → k ∈ C → 0 < var k
+codes_above : (C : List ℕ) (k : ℕ) → AllByRecursion (Code 512) C → k ∈ C → 0 < var k
 codes_above [] k a m = absurd m
 codes_above (l ∷ ls) k a (inl e) = omega (arith, a.0.0)
 codes_above (l ∷ ls) k a (inr m) = codes_above ls k a.1 m

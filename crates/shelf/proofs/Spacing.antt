@@ -1,6 +1,6 @@
 -- Clauses that there is space for are kept one after the other.
 use Rattle.std.proofs.Common.{◌≡◌, ℕ, suc, ◌+◌, ◌*◌, ◌<◌, ◌≤◌, List, [], ◌∷◌, ◌++◌, map, length, Ok, Err, Result, sym, refl, ap, ◌∙◌, subst, ap₂, mul-le-mul_right, suc-mul, mul-le-mul_left, arith}
-use Rattle.std.specs.List.{range_with_len, AllByRecursion as All}
+use Rattle.std.specs.List.{range_with_len, AllByRecursion}
 use Rattle.std.proofs.lemmas.List.{append_assoc, append-nil, length_push}
 use Rattle.laws.specs.Store.{Store, weight, weights, Room, Space}
 use Rattle.shelf.specs.Shelved.{Shelved, holding}
@@ -29,7 +29,7 @@ module _ (s : Shelved) (k l : ℕ) (space : Space s.store k l) where
   )
 
   keeps_all :
-      (kept Cs : List (List ℕ)) → length kept + length Cs ≤ k → weights s.store kept ≤ length kept * most → All (λ C. length C ≤ l) Cs →
+      (kept Cs : List (List ℕ)) → length kept + length Cs ≤ k → weights s.store kept ≤ length kept * most → AllByRecursion (λ C. length C ≤ l) Cs →
       (rs : List (Result ℕ ShelfFault)) (t : Shelved) → KeepsEach (holding s kept) Cs rs t →
       (rs ≡ map Ok (range_with_len (length kept) (length Cs))) × (t ≡ holding s (kept ++ Cs))
   keeps_all kept [] few light short [] t e = (refl, sym e ∙ ap (holding s) (sym (append-nil kept)))

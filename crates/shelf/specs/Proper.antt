@@ -3,7 +3,7 @@ use mathlib.Core.HLevel.{Π_prop, ⊥_prop, ×_prop, Unit-prop}
 use Rattle.std.specs.Prelude.{◌≡◌, ℕ, ◌≤◌, List, [], ◌∷◌, length, take}
 use Rattle.std.proofs.Math.Logic.{∥∥₁_elim}
 use Rattle.std.proofs.Math.Bridge.{le_prop}
-use Rattle.std.specs.List.{AllByRecursion as All}
+use Rattle.std.specs.List.{AllByRecursion}
 use Rattle.calculus.specs.Literals.{Tautological}
 use Rattle.calculus.specs.Meaning.{Code}
 use Rattle.laws.specs.Clauses.{Ascending}
@@ -11,7 +11,7 @@ use Rattle.laws.specs.Clauses.{Ascending}
 pub record Proper (C : List ℕ) : Type 0 where
   pub ascending : Ascending C
   pub tautology_free : Tautological C → ⊥
-  pub codes : All (Code 512) C
+  pub codes : AllByRecursion (Code 512) C
   deriving IsProp as proper_by
 
 -- F is the longest front of C that is such a clause
@@ -24,7 +24,7 @@ ascending_prop : (C : List ℕ) → IsProp (Ascending C)
 ascending_prop [] = Unit-prop
 ascending_prop (l ∷ ls) = ×_prop (Π_prop (λ k. Π_prop (λ h. le_prop))) (ascending_prop ls)
 
-codes_prop : (C : List ℕ) → IsProp (All (Code 512) C)
+codes_prop : (C : List ℕ) → IsProp (AllByRecursion (Code 512) C)
 codes_prop [] = Unit-prop
 codes_prop (l ∷ ls) = ×_prop (×_prop le_prop le_prop) (codes_prop ls)
 

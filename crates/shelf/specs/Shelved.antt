@@ -1,6 +1,6 @@
 -- What a shelf is: the clauses kept, line 0 first, and the three numbers that say what it can bear.
 use Rattle.std.specs.Prelude.{◌≡◌, ℕ, ◌<◌, ◌≤◌, List, [], ◌∷◌, ◌++◌, length, drop, Result, MatchResult}
-use Rattle.std.specs.List.{AllByRecursion as All}
+use Rattle.std.specs.List.{AllByRecursion}
 use Rattle.laws.specs.Derivations.{line_of}
 use Rattle.laws.specs.Store.{Store, weights, Room}
 use Rattle.shelf.specs.Proper.{Proper}
@@ -23,7 +23,7 @@ pub record Sound (s : Shelved) : Type 0 where
   pub rate_high : s.store.rate ≤ 64
   pub few : length s.kept ≤ 8192
   pub light : weights s.store s.kept ≤ s.store.capacity
-  pub proper : All Proper s.kept
+  pub proper : AllByRecursion Proper s.kept
 
 -- the shelf with other clauses
 abbrev pub holding : Shelved → List (List ℕ) → Shelved

@@ -1,6 +1,6 @@
 -- What space is worth: clauses that there is space for are all kept.
 use Rattle.std.specs.Prelude.{◌≡◌, ℕ, ◌≤◌, List, [], ◌∷◌, map, length, Ok, Result}
-use Rattle.std.specs.List.{range_with_len, AllByRecursion as All}
+use Rattle.std.specs.List.{range_with_len, AllByRecursion}
 use Rattle.laws.specs.Store.{Space}
 use Rattle.shelf.specs.Shelved.{Shelved, holding, Keeps}
 use Rattle.shelf.specs.declared.fault.ShelfFault.{ShelfFault}
@@ -15,5 +15,5 @@ KeepsEach s (C ∷ Cs) (r ∷ rs) t = (u : Shelved) × Keeps s C r u × KeepsEac
 -- from an empty shelf with space for k clauses of l literals, at most k clauses of at most l literals each are all kept, as lines 0, 1 and so on
 abbrev pub SpaceSuffices : Type 0
 SpaceSuffices =
-    (s : Shelved) (k l : ℕ) → Space s.store k l → (Cs : List (List ℕ)) → length Cs ≤ k → All (λ C. length C ≤ l) Cs →
+    (s : Shelved) (k l : ℕ) → Space s.store k l → (Cs : List (List ℕ)) → length Cs ≤ k → AllByRecursion (λ C. length C ≤ l) Cs →
     (rs : List (Result ℕ ShelfFault)) (t : Shelved) → KeepsEach (holding s []) Cs rs t → (rs ≡ map Ok (range_with_len 0 (length Cs))) × (t ≡ holding s Cs)

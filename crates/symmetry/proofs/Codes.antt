@@ -1,6 +1,6 @@
 -- Cards take literals to literals, and clauses hold literals only.
 use Rattle.std.proofs.Common.{ℕ, ◌%◌, List, ⊎_elim, arith}
-use Rattle.std.specs.List.{AllByRecursion as All}
+use Rattle.std.specs.List.{AllByRecursion}
 use Rattle.std.proofs.lemmas.Bool.{cases_eq}
 use Rattle.calculus.specs.Sets.{◌∈◌}
 use Rattle.calculus.specs.Literals.{var}
@@ -24,5 +24,5 @@ module _ (m : Meaning) (formed : Formed m) where
       (omega (arith, b.0), omega (arith, b.1, formed.prefix.few))
 
   -- a list that is, as a set, among the clauses holds literals only
-  pub among_codes : (C : List ℕ) → Among m C → All (Code 512) C
+  pub among_codes : (C : List ℕ) → Among m C → AllByRecursion (Code 512) C
   among_codes C a = all_from (Code 512) C (λ l i. member_code a.0 l a.1 ((a.2 l).0 i))

@@ -1,7 +1,7 @@
 -- A set is looked up among the clauses by its ascending list.
 use Rattle.std.proofs.Common.{◌≡◌, ℕ, ◌<◌, true, false, ◌↔◌, List, [], length, Some, None, Option, sym, refl, ap, ◌∙◌, subst, MatchOption}
 use mathlib.Core.Bool.{false≢true}
-use Rattle.std.specs.List.{AllByRecursion as All}
+use Rattle.std.specs.List.{AllByRecursion}
 use Rattle.calculus.specs.Sets.{Same}
 use Rattle.calculus.specs.Meaning.{Meaning, Formed, Code, clause_of}
 use Rattle.laws.specs.Cards.{Among}
@@ -41,7 +41,7 @@ module _ (m : Meaning) (words : List ℕ) where
 -- the set of a list of codes is looked up for the list; where there is none, no clause has the codes
 pub set_for :
     (m : Meaning) (formed : Formed m) (C : List ℕ) (set : Option LiteralSet) →
-    MatchOption set (All (Code 512) C → ⊥) (λ s. All (Code 512) C × (members s.words ≡ sorted C)) →
+    MatchOption set (AllByRecursion (Code 512) C → ⊥) (λ s. AllByRecursion (Code 512) C × (members s.words ≡ sorted C)) →
     MatchOption set (Among m C → ⊥) (λ s. Among m (members s.words) ↔ Among m C)
 set_for m formed C None h = λ a. h (among_codes m formed C a)
 set_for m formed C (Some s) h = among_sorted m (members s.words) C h.1

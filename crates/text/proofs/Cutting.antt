@@ -1,6 +1,6 @@
 -- Clauses that are laid one behind the other, with their running counts, are cut out again.
 use Rattle.std.proofs.Common.{◌≡◌, ℕ, ◌+◌, ◌-◌, ◌*◌, ◌≤◌, true, ◌&&◌, ltb, leb, List, [], ◌∷◌, ◌++◌, length, take, drop, sym, refl, ap, ◌∙◌, arith}
-use Rattle.std.specs.List.{AllByRecursion as All}
+use Rattle.std.specs.List.{AllByRecursion}
 use Rattle.std.proofs.lemmas.List.{append_assoc, length-append, take_at, drop_at}
 use Rattle.std.proofs.lemmas.Bool.{and_from, le-leb, lt-ltb, cond-true}
 use Rattle.calculus.specs.Meaning.{Code, Clause}
@@ -8,7 +8,7 @@ use Rattle.reading.specs.Laid.{padded, all_codes, running}
 use Rattle.reading.proofs.Laying.{length_running}
 use Rattle.text.specs.Cells.{cut, cuts, code, codes, lies, fits, clauses_in}
 
-codes_pass : (n : ℕ) (C : List ℕ) → All (Code n) C → codes n C ≡ true
+codes_pass : (n : ℕ) (C : List ℕ) → AllByRecursion (Code n) C → codes n C ≡ true
 codes_pass n [] h = refl
 codes_pass n (l ∷ C) h =
     and_from (code n l) (codes n C) (and_from (leb 2 l) (ltb l (2 * (n + 1))) (le-leb 2 l h.0.0) (lt-ltb l (2 * (n + 1)) h.0.1)) (codes_pass n C h.1)
@@ -52,7 +52,7 @@ module _ (n : ℕ) (back : List ℕ) where
       ap (λ k. cuts (cells (front ++ C) Cs) k (running k Cs)) (sym (length-append front C)) ∙ cuts_all (front ++ C) Cs
       )
 
-  fits_all : (front : List ℕ) (Cs : List (List ℕ)) → All (Clause n) Cs → fits n (cells front Cs) (length front) (running (length front) Cs) ≡ true
+  fits_all : (front : List ℕ) (Cs : List (List ℕ)) → AllByRecursion (Clause n) Cs → fits n (cells front Cs) (length front) (running (length front) Cs) ≡ true
   fits_all front [] h = refl
   fits_all front (C ∷ Cs) h =
       and_from _ _
@@ -63,7 +63,7 @@ module _ (n : ℕ) (back : List ℕ) where
       )
 
 -- cells that hold the codes and the running counts hold the clauses
-pub clauses_held : (n m : ℕ) (literals ends : List ℕ) (Cs : List (List ℕ)) → All (Clause n) Cs → m ≡ length Cs → m ≤ length ends →
+pub clauses_held : (n m : ℕ) (literals ends : List ℕ) (Cs : List (List ℕ)) → AllByRecursion (Clause n) Cs → m ≡ length Cs → m ≤ length ends →
     literals ≡ padded (length literals) (all_codes Cs) → ends ≡ padded (length ends) (running 0 Cs) → clauses_in n m literals ends ≡ Cs
 clauses_held n m literals ends Cs h count room codes_are ends_are =
     let front : take m ends ≡ running 0 Cs = ap (take m) ends_are ∙ take_at (running 0 Cs) _ m (length_running 0 Cs ∙ sym count) in

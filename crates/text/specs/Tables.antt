@@ -1,7 +1,7 @@
 -- What a table means, and that it is well formed.
 use Rattle.std.specs.Prelude.{◌≡◌, ℕ, ◌+◌, ◌-◌, true, ◌&&◌, List, [], ◌∷◌, length, take, nat_le}
 use Rattle.std.proofs.Common.{arith, length-take}
-use Rattle.std.specs.List.{AllByRecursion as All}
+use Rattle.std.specs.List.{AllByRecursion}
 use Rattle.std.proofs.lemmas.Bool.{and_parts, leb-true, ltb-true}
 use Rattle.calculus.specs.Meaning.{Meaning, Code, Clause, prefix_out, Formed}
 use Rattle.text.specs.Cells.{cut, cuts, code, codes, lies, fits}
@@ -17,7 +17,7 @@ formula_in t = record {
 }
 
 -- codes that pass the test are those of literals
-codes_all : (n : ℕ) (ls : List ℕ) → codes n ls ≡ true → All (Code n) ls
+codes_all : (n : ℕ) (ls : List ℕ) → codes n ls ≡ true → AllByRecursion (Code n) ls
 codes_all n [] h = tt
 codes_all n (l ∷ ls) h =
     let p = and_parts (code n l) (codes n ls) h in
@@ -32,7 +32,7 @@ lies_clause n literals from end h =
     (simp length-take (omega (arith, leb-true (end - from) 1024 q.0)), codes_all n (cut literals from end) q.1)
 
 -- cells that fit hold clauses
-fits_all : (n : ℕ) (literals : List ℕ) (from : ℕ) (ends : List ℕ) → fits n literals from ends ≡ true → All (Clause n) (cuts literals from ends)
+fits_all : (n : ℕ) (literals : List ℕ) (from : ℕ) (ends : List ℕ) → fits n literals from ends ≡ true → AllByRecursion (Clause n) (cuts literals from ends)
 fits_all n literals from [] h = tt
 fits_all n literals from (end ∷ ends) h =
     let p = and_parts (lies n literals from end) (fits n literals end ends) h in

@@ -1,6 +1,6 @@
 -- What stands behind a word leaves the words up to it as they are.
 use Rattle.std.proofs.Common.{◌≡◌, ℕ, suc, ◌+◌, ◌<◌, ◌≤◌, true, eqb, List, [], ◌∷◌, ◌++◌, map, length, sym, refl, ap, ◌∙◌, subst, ⊎_elim, arith}
-use Rattle.std.specs.List.{AllByRecursion as All}
+use Rattle.std.specs.List.{AllByRecursion}
 use Rattle.std.proofs.lemmas.List.{append-nil, append_assoc, length-append, length_push, map-append}
 use Rattle.std.proofs.ByRecursion.{All-append, All-map, All-weaker, all-has, has_append_right, has_get_or}
 use Rattle.std.proofs.lemmas.Bool.{cases_Bool, cond_both}
@@ -36,21 +36,21 @@ Spelled = ℕ × List ℕ
 abbrev From : ℕ → Spelled → Type 0
 From n x = n ≤ x.0
 
-ended_from : (n at : ℕ) (w : List ℕ) → n + length w ≤ at → All (From n) (ended at w)
+ended_from : (n at : ℕ) (w : List ℕ) → n + length w ≤ at → AllByRecursion (From n) (ended at w)
 ended_from n at [] h = tt
 ended_from n at (b ∷ bs) h = (omega arith, tt)
 
 -- no word begins before the offset at which the one begun does
-from : (n at : ℕ) (w bs : List ℕ) → n + length w ≤ at → All (From n) (words_from at w bs)
+from : (n at : ℕ) (w bs : List ℕ) → n + length w ≤ at → AllByRecursion (From n) (words_from at w bs)
 from n at w [] h = ended_from n at w h
 from n at w (b ∷ bs) h =
-    cond_both (blank b) (ended at w ++ words_from (at + 1) [] bs) (words_from (at + 1) (w ++ (b ∷ [])) bs) (All (From n))
+    cond_both (blank b) (ended at w ++ words_from (at + 1) [] bs) (words_from (at + 1) (w ++ (b ∷ [])) bs) (AllByRecursion (From n))
     (λ _. All-append (From n) (ended at w) _ (ended_from n at w h) (from n (at + 1) [] bs (omega arith)))
     (λ _. from n (at + 1) (w ++ (b ∷ [])) bs (omega (arith, length_push w b)))
 
 -- the words X that bytes xs end or leave begun, and behind them words that begin at n or later
 abbrev Cut : ℕ → ℕ → List ℕ → List ℕ → List Spelled → List ℕ → Type 0
-Cut n at w xs X ys = (T : List Spelled) × (words_from at w (xs ++ ys) ≡ X ++ T) × All (From n) T
+Cut n at w xs X ys = (T : List Spelled) × (words_from at w (xs ++ ys) ≡ X ++ T) × AllByRecursion (From n) T
 
 cut_here : (n at : ℕ) (w ys : List ℕ) → n ≤ at → Apart ys → Cut n at w [] (ended at w) ys
 cut_here n at w [] h a = ([], sym (append-nil (ended at w)), tt)
@@ -76,11 +76,11 @@ abbrev Past : ℕ → Lexeme → Type 0
 Past n l = n < l.place
 
 -- a word that is not among the later ones is among the earlier ones
-earlier : (n : ℕ) (X T before after : List Lexeme) (l : Lexeme) → All (Past n) T → l.place ≡ n
+earlier : (n : ℕ) (X T before after : List Lexeme) (l : Lexeme) → AllByRecursion (Past n) T → l.place ≡ n
     → X ++ T ≡ before ++ (l ∷ after) → (rest : List Lexeme) × (X ≡ before ++ (l ∷ rest))
 earlier n [] T before after l far at e =
     let here = has_append_right before (l ∷ after) l (has_get_or (l ∷ after) 0 l (omega arith)) in
-    let late = all-has (Past n) (before ++ (l ∷ after)) l (subst (All (Past n)) e far) here in
+    let late = all-has (Past n) (before ++ (l ∷ after)) l (subst (AllByRecursion (Past n)) e far) here in
     absurd (omega arith)
 earlier n (x ∷ xs) T [] after l far at e = (xs, cc)
 earlier n (x ∷ xs) T (y ∷ ys) after l far at e =
@@ -90,7 +90,7 @@ earlier n (x ∷ xs) T (y ∷ ys) after l far at e =
 
 -- the words of a text up to the end of its front, and those behind
 cut_text : (n : ℕ) (xs : List ℕ) → n < length xs
-    → (X : List Lexeme) × ((ys : List ℕ) → Apart ys → (T : List Lexeme) × (lexemes (xs ++ ys) ≡ X ++ T) × All (Past n) T)
+    → (X : List Lexeme) × ((ys : List ℕ) → Apart ys → (T : List Lexeme) × (lexemes (xs ++ ys) ≡ X ++ T) × AllByRecursion (Past n) T)
 cut_text n xs h =
     let r = behind_all line_start xs in
     let i = cut (n + 1) 0 [] (bare line_start xs) (omega (arith, length_bare line_start xs)) in (
@@ -104,7 +104,7 @@ cut_text n xs h =
     )
 
 -- two lists of words that go on differently behind the same front
-shared : (n : ℕ) (X T T' A A' before after : List Lexeme) (l : Lexeme) → A ≡ X ++ T → A' ≡ X ++ T' → All (Past n) T
+shared : (n : ℕ) (X T T' A A' before after : List Lexeme) (l : Lexeme) → A ≡ X ++ T → A' ≡ X ++ T' → AllByRecursion (Past n) T
     → A ≡ before ++ (l ∷ after) → l.place ≡ n → (after' : List Lexeme) × (A' ≡ before ++ (l ∷ after'))
 shared n X T T' A A' before after l is is' far e at =
     let rest = earlier n X T before after l far at (sym is ∙ e) in

@@ -1,6 +1,6 @@
 -- A text that is made of words with a blank behind each reads back as those words.
 use Rattle.std.proofs.Common.{◌≡◌, ℕ, ◌+◌, ◌<◌, true, false, List, [], ◌∷◌, ◌++◌, map, length, decimal, sym, refl, ap, ◌∙◌, add-zero, arith}
-use Rattle.std.specs.List.{AllByRecursion as All}
+use Rattle.std.specs.List.{AllByRecursion}
 use Rattle.std.proofs.lemmas.List.{append-nil, append_assoc}
 use Rattle.std.proofs.lemmas.Bool.Decides.{nat_tests}
 use Rattle.std.proofs.lemmas.Bool.{and_parts}
@@ -10,7 +10,7 @@ use Rattle.words.specs.Words.{line_start, body, blank, bare, ended, words_from, 
 use Rattle.words.proofs.Numbers.{numeric, numeric_decimal}
 use Rattle.words.proofs.Reading.{at_blank, at_solid, ended_some}
 
-gather : (at : ℕ) (u w : List ℕ) (b : ℕ) (bs : List ℕ) → All (λ d. blank d ≡ false) w → blank b ≡ true
+gather : (at : ℕ) (u w : List ℕ) (b : ℕ) (bs : List ℕ) → AllByRecursion (λ d. blank d ≡ false) w → blank b ≡ true
     → words_from at u (w ++ (b ∷ bs)) ≡ ended (at + length w) (u ++ w) ++ words_from (at + length w + 1) [] bs
 gather at u [] b bs s e = rw (append-nil u, add-zero at) (at_blank at u b bs e)
 gather at u (d ∷ ds) b bs s e =
@@ -43,7 +43,7 @@ spaced (x ∷ xs) = x.0 ++ (x.1 ∷ spaced xs)
 
 -- each a word as it may stand in a text, with a blank
 abbrev pub WellSpaced : List (List ℕ × ℕ) → Type 0
-WellSpaced xs = All (λ x. Solid x.0 × (blank x.1 ≡ true)) xs
+WellSpaced xs = AllByRecursion (λ x. Solid x.0 × (blank x.1 ≡ true)) xs
 
 pub spaced_append : (xs ys : List (List ℕ × ℕ)) → spaced (xs ++ ys) ≡ spaced xs ++ spaced ys
 spaced_append [] ys = refl
@@ -70,7 +70,7 @@ each_token (w ∷ ws) = ap (λ ts. token_of w.1 ∷ ts) (each_token ws)
 pub tokens_spelled : (text : List ℕ) → map (λ l. l.token) (lexemes text) ≡ map token_of (spellings text)
 tokens_spelled text = each_token (words text)
 
-solid_digits : (w : List ℕ) → numeric w ≡ true → All (λ b. blank b ≡ false) w
+solid_digits : (w : List ℕ) → numeric w ≡ true → AllByRecursion (λ b. blank b ≡ false) w
 solid_digits [] h = tt
 solid_digits (b ∷ bs) h = let p = and_parts (digit b) (numeric bs) h in (grind (arith, nat_tests), solid_digits bs p.1)
 

@@ -1,6 +1,6 @@
 -- The words of a formula text, with their places.
 use Rattle.std.specs.Prelude.{◌≡◌, ℕ, ◌+◌, ◌-◌, ◌≤◌, Bool, true, false, cond, ◌||◌, List, [], ◌∷◌, ◌++◌, map, length, ◌==◌}
-use Rattle.std.specs.List.{AllByRecursion as All}
+use Rattle.std.specs.List.{AllByRecursion}
 use Rattle.words.specs.declared.token.Lexeme.{Lexeme}
 use Rattle.words.specs.Tokens.{token_of}
 
@@ -66,7 +66,7 @@ spellings text = map (λ w. w.1) (words text)
 
 -- a word as it may stand in a text: some bytes, none of them blank
 abbrev pub Solid : List ℕ → Type 0
-Solid w = (1 ≤ length w) × All (λ b. blank b ≡ false) w
+Solid w = (1 ≤ length w) × AllByRecursion (λ b. blank b ≡ false) w
 
 -- bytes before which a word ends
 abbrev pub Apart : List ℕ → Type 0

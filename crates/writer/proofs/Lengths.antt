@@ -1,6 +1,6 @@
 -- How long the text of a formula, and the line that reports a fault, can be.
 use Rattle.std.proofs.Common.{ℕ, zero, suc, ◌+◌, ◌*◌, ◌/◌, ◌%◌, ◌^◌, ◌<◌, ◌≤◌, Bool, eqb, leb, List, [], ◌∷◌, ◌++◌, length, codes, decimal, sum_by, filter, sym, subst, mul-suc, mul-add, arith, length-append}
-use Rattle.std.specs.List.{range_with_len, flat_map, AllByRecursion as All}
+use Rattle.std.specs.List.{range_with_len, flat_map, AllByRecursion}
 use Rattle.std.proofs.lemmas.List.FromFn.{length-range_with_len}
 use Rattle.std.proofs.lemmas.Fmt.{length-decimal-le}
 use Rattle.std.proofs.ByRecursion.{all_kept_by, All-weaker}
@@ -23,7 +23,7 @@ use Rattle.writer.proofs.Matrices.{total_back}
 use Rattle.writer.proofs.Prefixes.{counting_variables, some_at_each}
 
 -- pieces of at most a * w + b bytes each
-joined_short : {X : Type 0} (f : X → List ℕ) (w : X → ℕ) (a b : ℕ) (xs : List X) → All (λ x. length (f x) ≤ a * w x + b) xs →
+joined_short : {X : Type 0} (f : X → List ℕ) (w : X → ℕ) (a b : ℕ) (xs : List X) → AllByRecursion (λ x. length (f x) ≤ a * w x + b) xs →
     length (flat_map f xs) ≤ a * sum_by w xs + b * length xs
 joined_short f w a b [] h = omega arith
 joined_short f w a b (x ∷ xs) h =
@@ -31,11 +31,11 @@ joined_short f w a b (x ∷ xs) h =
     rw (sum_by-cons w x xs, mul-add a (w x) (sum_by w xs), mul-suc b (length xs)) (omega (arith, length-append (f x) (flat_map f xs)))
 
 -- pieces of at most b bytes each
-pieces_short : {X : Type 0} (f : X → List ℕ) (b : ℕ) (xs : List X) → All (λ x. length (f x) ≤ b) xs → length (flat_map f xs) ≤ b * length xs
+pieces_short : {X : Type 0} (f : X → List ℕ) (b : ℕ) (xs : List X) → AllByRecursion (λ x. length (f x) ≤ b) xs → length (flat_map f xs) ≤ b * length xs
 pieces_short f b xs h =
     omega (arith, joined_short f (λ _. 0) 0 b xs (All-weaker (λ x. length (f x) ≤ b) (λ x. length (f x) ≤ 0 * 0 + b) (λ x l. omega arith) xs h))
 
-some_each : {X : Type 0} (w : X → ℕ) (xs : List X) → All (λ x. 1 ≤ w x) xs → length xs ≤ sum_by w xs
+some_each : {X : Type 0} (w : X → ℕ) (xs : List X) → AllByRecursion (λ x. 1 ≤ w x) xs → length xs ≤ sum_by w xs
 some_each w [] h = omega arith
 some_each w (x ∷ xs) h = omega (arith, sum_by-cons w x xs, some_each w xs h.1)
 

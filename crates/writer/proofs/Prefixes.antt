@@ -2,7 +2,7 @@
 use Rattle.std.proofs.Common.{◌≡◌, ℕ, zero, suc, ◌<◌, ◌≤◌, true, eqb, List, [], ◌∷◌, length, get_or, sym, refl, ap, ◌∙◌, ⊎_elim, arith}
 use mathlib.Core.Logic.{∥∥₁_elim}
 use native.Mathlib.Bridge.{le_prop}
-use Rattle.std.specs.List.{range_with_len, AllByRecursion as All}
+use Rattle.std.specs.List.{range_with_len, AllByRecursion}
 use Rattle.std.proofs.lemmas.List.FromFn.{length-range_with_len, get_or-range_with_len}
 use Rattle.std.proofs.ByRecursion.{All-get_or, All-from_get_or, all_kept_by, kept_by_passes}
 use Rattle.std.proofs.lemmas.List.{get_or_past, length-reverse}
@@ -47,7 +47,7 @@ greatest_reached [] h = absurd (omega arith)
 greatest_reached (x ∷ xs) h =
     ⊎_elim (λ l. let r = greatest_reached xs (omega arith) in (suc r.0, omega (arith, r.1))) (λ l. (0, omega arith)) (cases_lt x (greatest xs))
 
-pub counting_variables : (n : ℕ) → All (Variable n) (range_with_len 1 n)
+pub counting_variables : (n : ℕ) → AllByRecursion (Variable n) (range_with_len 1 n)
 counting_variables n =
     All-from_get_or (Variable n) (range_with_len 1 n) 0
     (λ i h. let l : i < n = omega (arith, length-range_with_len 1 n) in rw (get_or-range_with_len 1 n i 0 l) (omega arith, omega arith))

@@ -1,6 +1,6 @@
 -- What the words of a written text say.
 use Rattle.std.proofs.Common.{◌≡◌, ℕ, ◌/◌, ◌%◌, ◌<◌, ◌≤◌, Bool, true, false, cond, eqb, List, [], ◌∷◌, ◌++◌, map, length, codes, decimal, sym, refl, ap, ◌∙◌, append_assoc, arith}
-use Rattle.std.specs.List.{flat_map, AllByRecursion as All}
+use Rattle.std.specs.List.{flat_map, AllByRecursion}
 use Rattle.std.proofs.ByRecursion.{All-append}
 use Rattle.std.proofs.lemmas.List.{map-append}
 use Rattle.calculus.specs.Meaning.{Meaning, Code}
@@ -44,7 +44,7 @@ says_as e h f = record { pieces = f.pieces; well = f.well; whole = f.whole ∙ e
 
 -- one element after the other
 pub says_joined : {X : Type 0} (P : X → Type 0) (f : X → List ℕ) (g : X → List Token) → ((x : X) → P x → Says (f x) (g x)) →
-    (xs : List X) → All P xs → Says (flat_map f xs) (flat_map g xs)
+    (xs : List X) → AllByRecursion P xs → Says (flat_map f xs) (flat_map g xs)
 says_joined P f g each [] h = says_none
 says_joined P f g each (x ∷ xs) h = says_then (each x h.0) (says_joined P f g each xs h.1)
 
@@ -85,13 +85,13 @@ letter_says true = says_word (101 ∷ []) 32 Exists (omega arith, (refl, tt)) re
 letter_says false = says_word (97 ∷ []) 32 Forall (omega arith, (refl, tt)) refl refl
 
 -- a letter, the variables, and 0
-pub says_block : (q : ℕ) (vs : List ℕ) → All (λ v. v < 100000) vs →
+pub says_block : (q : ℕ) (vs : List ℕ) → AllByRecursion (λ v. v < 100000) vs →
     Says (letter_byte q ∷ (flat_map variable_text vs ++ codes " 0\n")) (letter q ∷ (flat_map (λ v. Number v ∷ []) vs ++ (Number 0 ∷ [])))
 says_block q vs h =
     says_as (ap (λ xs. letter_byte q ∷ xs) (sym (shifted vs (48 ∷ 10 ∷ [])))) refl
     (says_then (letter_says (eqb q 1)) (says_then (says_joined (λ v. v < 100000) (λ v. decimal v ++ (32 ∷ [])) (λ v. Number v ∷ []) (λ v l. says_number v 32 l refl) vs h) (says_word (48 ∷ []) 10 (Number 0) (omega arith, (refl, tt)) refl refl)))
 
-pub says_clause : (n : ℕ) (C : List ℕ) → n ≤ 512 → All (Code n) C → Says (clause_line C) (flat_map (λ l. literal_word l ∷ []) C ++ (Number 0 ∷ []))
+pub says_clause : (n : ℕ) (C : List ℕ) → n ≤ 512 → AllByRecursion (Code n) C → Says (clause_line C) (flat_map (λ l. literal_word l ∷ []) C ++ (Number 0 ∷ []))
 says_clause n C few h =
     says_then (says_joined (Code n) literal_text (λ l. literal_word l ∷ []) (λ l c. says_literal n l few c) C h)
     (says_word (48 ∷ []) 10 (Number 0) (omega arith, (refl, tt)) refl refl)

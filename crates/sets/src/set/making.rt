@@ -1,6 +1,6 @@
 // The sets of listed codes, and of clauses.
 ghost use Rattle.std.specs.Prelude.{◌≡◌, MatchOption};
-ghost use Rattle.std.specs.List.{AllByRecursion as All};
+ghost use Rattle.std.specs.List.{AllByRecursion};
 ghost use Rattle.calculus.specs.Meaning.{Code, clause_of};
 ghost use Rattle.laws.specs.Claims.{sorted};
 ghost use Rattle.sets.specs.Members.{members};
@@ -11,7 +11,7 @@ use formula::Formula;
 impl LiteralSet {
     // The set of the codes; none where some code is no literal.
     pub fn of(codes: &[u16]) -> Option<LiteralSet>
-        ensures { MatchOption result (All (Code 512) codes.now → ⊥) (λ s. All (Code 512) codes.now × (members s.words ≡ sorted codes.now)) }
+        ensures { MatchOption result (AllByRecursion (Code 512) codes.now → ⊥) (λ s. AllByRecursion (Code 512) codes.now × (members s.words ≡ sorted codes.now)) }
     {
         let mut set = LiteralSet::new();
         for code in codes {

@@ -1,6 +1,6 @@
 use Rattle.std.proofs.Common.{refl, ap, ◌∙◌, subst, arith}
 use mathlib.Core.Bool.{false≢true}
-use Rattle.std.specs.List.{AllByRecursion as All}
+use Rattle.std.specs.List.{AllByRecursion}
 use Rattle.std.proofs.ByRecursion.{All-more, All-get_or}
 use Rattle.std.proofs.lemmas.List.{take_all}
 use Rattle.calculus.specs.Meaning.{Code}
@@ -24,4 +24,4 @@ loop-code-preserved c =
 pub returns : goal.returns
 returns c =
     let whole = take_all c.loop-code.code-index c.args.codes.now (omega arith) in
-    (subst (All (Code 512)) whole c.loop-code.invariant.0, c.loop-code.invariant.1 ∙ ap sorted whole)
+    (subst (AllByRecursion (Code 512)) whole c.loop-code.invariant.0, c.loop-code.invariant.1 ∙ ap sorted whole)
