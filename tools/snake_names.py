@@ -20,6 +20,8 @@ KIT = re.compile(r"use (?:Rattle\.(?:std|core)|mathlib|lib|native|base|Prim)[\w.
 WALKS = ("Answers.antt", "Invariants.antt", "Proof.antt")
 # names that held a word of the older library
 ODD = {"getD-in": "get_or_in", "getD-mapped": "get_or_mapped", "sumBy-reverse": "sum_by_reverse"}
+# a proposition that the kit's script turned as if it were a lemma
+HALF = {"Goes_on": "GoesOn"}
 
 
 def files():
@@ -57,6 +59,13 @@ def spelled(name):
     return "_".join(parts)
 
 
+def turned(piece, to):
+    piece = NAME.sub(lambda m: to.get(m.group(0), m.group(0)), piece)
+    for half, whole in HALF.items():
+        piece = re.sub(rf"\b{half}\b", whole, piece)
+    return piece
+
+
 def main():
     texts = {p: open(p, encoding="utf-8").read() for p in files()}
     kit, own, words = set(), set(), collections.Counter()
@@ -83,7 +92,7 @@ def main():
     for p, t in texts.items():
         lines = []
         for line in t.split("\n"):
-            lines.append("".join(NAME.sub(lambda m: to.get(m.group(0), m.group(0)), piece) if is_code else piece for is_code, piece in cut(line)))
+            lines.append("".join(turned(piece, to) if is_code else piece for is_code, piece in cut(line)))
         new = "\n".join(lines)
         if new != t:
             with open(p, "w", encoding="utf-8") as f:

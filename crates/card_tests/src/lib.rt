@@ -1,6 +1,6 @@
+// Cards, symmetries and images, by examples.
 #![tactic(auto)]
 
-// Cards, symmetries and images, by examples.
 #[cfg(test)]
 mod acting;
 #[cfg(test)]

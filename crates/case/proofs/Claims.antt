@@ -12,7 +12,7 @@ use Rattle.laws.proofs.Calls.{called_after}
 use Rattle.laws.proofs.Deciding.{claim_is_when, decided_when}
 use Rattle.laws.proofs.Rules.{gives_given, gives_one}
 use Rattle.case.specs.Answers.{refusal_number, claim_reply}
-use Rattle.case.specs.Claimed.{outcome, clause_by, Claimed, Judged, After, Goes_on, ClaimRight}
+use Rattle.case.specs.Claimed.{outcome, clause_by, Claimed, Judged, After, GoesOn, ClaimRight}
 use Rattle.case.specs.Standing.{Standing, with_line}
 use Rattle.case.specs.Steps.{Decides, KeepsLine}
 use Rattle.case.specs.declared.refusal.Refusal.{Refusal}
@@ -127,7 +127,7 @@ module _ (s : Standing) (line : Line) where
       ∙ ap (λ b. claim_when b s.shelf.store s.formula s.shelf.kept line) (sym h.refuted) ∙ e))
 
   -- so calls go on with this claim
-  pub claimed_goes_on : (r : Result ℕ Refusal) (t : Standing) → Claimed s line r t → Goes_on s (claims line) (claim_reply r) t
+  pub claimed_goes_on : (r : Result ℕ Refusal) (t : Standing) → Claimed s line r t → GoesOn s (claims line) (claim_reply r) t
   claimed_goes_on (Ok p) t (e, l, f) calls h = (
     subst (After (calls ++ (claims line ∷ []))) (sym f) stands,
     ap (λ u. u.replies) x ∙ ap (λ q. (before calls).replies ++ (claim_reply (Ok q) ∷ [])) (ap length (sym h.kept) ∙ sym l),
@@ -149,7 +149,7 @@ module _ (s : Standing) (line : Line) where
       let stands : After (calls ++ (claims line ∷ [])) s = record { kept = h.kept ∙ sym (ap (λ u. u.kept) x); refuted = h.refuted } in
       (subst (After (calls ++ (claims line ∷ []))) (sym f) stands, ap (λ u. u.replies) x)
 
-  pub decides_goes_on : (r : Result ℕ Refusal) (t : Standing) → Decides s line r t → Goes_on s (claims line) (claim_reply r) t
+  pub decides_goes_on : (r : Result ℕ Refusal) (t : Standing) → Decides s line r t → GoesOn s (claims line) (claim_reply r) t
   decides_goes_on r t d = claimed_goes_on r t (decides_claimed s line r t d)
 
   pub claim_right : (r : Result ℕ Refusal) (t : Standing) → Decides s line r t → ClaimRight s line r t

@@ -48,8 +48,8 @@ abbrev pub Reached : Standing → Type 0
 Reached s = (calls : List Call) × After calls s
 
 -- wherever calls lead to s, with this call they lead to t, and the call gets the reply
-abbrev pub Goes_on : Standing → Call → Reply → Standing → Type 0
-Goes_on s call reply t =
+abbrev pub GoesOn : Standing → Call → Reply → Standing → Type 0
+GoesOn s call reply t =
     (calls : List Call) → After calls s →
     After (calls ++ (call ∷ [])) t ×
     ((run s.shelf.store s.formula (calls ++ (call ∷ []))).replies ≡ (run s.shelf.store s.formula calls).replies ++ (reply ∷ []))
@@ -58,10 +58,10 @@ Goes_on s call reply t =
 pub record ClaimRight (s : Standing) (line : Line) (r : Result ℕ Refusal) (t : Standing) : Type 0 where
   pub answered : Claimed s line r t
   pub judged : Judged s line r t
-  pub goes_on : Goes_on s (claims line) (claim_reply r) t
+  pub goes_on : GoesOn s (claims line) (claim_reply r) t
 
 -- what a call promises: the formula and the numbers of the shelf stay, and how it goes on
 pub record CallRight (s : Standing) (call : Call) (reply : Reply) (t : Standing) : Type 0 where
   pub formula : t.formula ≡ s.formula
   pub store : t.shelf.store ≡ s.shelf.store
-  pub goes_on : Goes_on s call reply t
+  pub goes_on : GoesOn s call reply t

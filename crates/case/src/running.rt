@@ -16,7 +16,7 @@ pub fn run<F: Formula, S: Shelf>(
     calls: &[Call],
     replies: &mut [Reply],
 ) -> Case<F, S>
-    ensures { RunRight (S.Shelf.meaning shelf).store (F.Formula.meaning formula) calls.now replies.old replies.new (standing F.Formula.meaning S.Shelf.meaning result) }
+    ensures { RunRight (S.meaning shelf).store (F.meaning formula) calls.now replies.old replies.new (standing F.meaning S.meaning result) }
 {
     let mut case = Case::open(formula, shelf);
     for i in 0..calls.len() {
@@ -37,7 +37,7 @@ fn make<F: Formula, S: Shelf>(
 )
     requires call { i < length calls.now }
     requires place { i < length replies.old }
-    ensures { Makes (standing F.Formula.meaning S.Shelf.meaning case.old) calls.now i replies.old replies.new (standing F.Formula.meaning S.Shelf.meaning case.new) }
+    ensures { Makes (standing F.meaning S.meaning case.old) calls.now i replies.old replies.new (standing F.meaning S.meaning case.new) }
 {
     replies[i] = case.answer(calls[i]);
 }

@@ -1,4 +1,6 @@
 // Cases on formulas and shelves, by examples.
+#![tactic(auto)]
+
 #[cfg(test)]
 mod axioms;
 #[cfg(test)]

@@ -23,7 +23,7 @@ fn reopens<F: Formula + Drop, S: Shelf + Drop>(
 ) -> Result<(), Fail> {
     assert!(rt; shelf.keep(Clause::front(&[2, 5])).is_ok(), "{}", ground);
     assert!(rt; shelf.keep(Clause::front(&[])).is_ok(), "{}", ground);
-    keeps(rt, &shelf, &[&[1, -2], &[]])?;
+    keeps(rt, ground, &shelf, &[&[1, -2], &[]])?;
     // a case that is refuted
     let mut case = Case::open(formula, shelf);
     assert_eq!(rt;
@@ -45,7 +45,7 @@ fn reopens<F: Formula + Drop, S: Shelf + Drop>(
         ground
     );
     let (formula, shelf) = case.close();
-    keeps(rt, &shelf, &[&[]])?;
+    keeps(rt, ground, &shelf, &[&[]])?;
     // another, on what it gave back
     let mut case = Case::open(formula, shelf);
     assert_eq!(rt;
@@ -67,7 +67,7 @@ fn reopens<F: Formula + Drop, S: Shelf + Drop>(
         ground
     );
     let (formula, shelf) = case.close();
-    keeps(rt, &shelf, &[&[-1]])?;
+    keeps(rt, ground, &shelf, &[&[-1]])?;
     assert_eq!(rt;
         (formula.variable_count(), formula.clause_count()),
         (1, 2),

@@ -42,7 +42,7 @@ pub(crate) fn hold<F: Formula, S: Shelf>(
             granted = granted.saturating_add(1);
         }
     }
-    assert_eq!(rt; granted, clauses.len());
+    assert_eq!(rt; granted, clauses.len(), "{}", ground);
     Ok(())
 }
 
@@ -76,7 +76,7 @@ pub(crate) fn answers<F: Formula + Drop, S: Shelf + Drop>(
         }
     }
     let (_, shelf) = case.close();
-    keeps(rt, &shelf, clauses)
+    keeps(rt, ground, &shelf, clauses)
 }
 
 // Makes a call by the function of its name.
@@ -126,5 +126,5 @@ pub(crate) fn runs<F: Formula + Drop, S: Shelf + Drop>(
         );
     }
     let (_, shelf) = case.close();
-    keeps(rt, &shelf, clauses)
+    keeps(rt, ground, &shelf, clauses)
 }

@@ -60,7 +60,9 @@ fn pairs_in(bytes: &[u8], count: usize) -> [(u16, u16); 512]
 
 // The place of a fault of pairs of which so many fields are whole.
 fn placed(fault: CardFault, place: usize, count: usize, whole: usize) -> LineFault
-    requires { (byte_of place fault < 2 ^ 64) × ((place + 2 + 2 * whole < 2 ^ 64) × (count ≤ 512)) }
+    requires byte { byte_of place fault < 2 ^ 64 }
+    requires end { place + 2 + 2 * whole < 2 ^ 64 }
+    requires few { count ≤ 512 }
     ensures { Placed place count whole fault result }
 {
     let (asked, byte) = match fault {

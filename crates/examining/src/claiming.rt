@@ -26,7 +26,7 @@ pub(crate) fn make<F: Formula, S: Shelf>(
     case: &mut Case<F, S>,
     claim: Claim,
 ) -> Result<usize, Refusal>
-    ensures { Claimed (standing F.Formula.meaning S.Shelf.meaning case.old) (line_of claim) result (standing F.Formula.meaning S.Shelf.meaning case.new) }
+    ensures { Claimed (standing F.meaning S.meaning case.old) (line_of claim) result (standing F.meaning S.meaning case.new) }
 {
     match claim {
         Claim::Axiom(j) => case.axiom(j),

@@ -15,7 +15,7 @@ pub fn examine<F: Formula, S: Shelf>(
     case: &mut Case<F, S>,
     docket: &[u8],
 ) -> Result<(), ReportFault>
-    ensures { ExaminedRight (standing F.Formula.meaning S.Shelf.meaning case.old) docket.now result (standing F.Formula.meaning S.Shelf.meaning case.new) }
+    ensures { ExaminedRight (standing F.meaning S.meaning case.old) docket.now result (standing F.meaning S.meaning case.new) }
 {
     let mut at = 0;
     while at < docket.len() {
@@ -30,7 +30,7 @@ fn advance<F: Formula, S: Shelf>(
     docket: &[u8],
     at: usize,
 ) -> Result<usize, ReportFault>
-    ensures { Advanced (standing F.Formula.meaning S.Shelf.meaning case.old) docket.now at result (standing F.Formula.meaning S.Shelf.meaning case.new) }
+    ensures { Advanced (standing F.meaning S.meaning case.old) docket.now at result (standing F.meaning S.meaning case.new) }
 {
     let next = step(case, docket, at);
     let next = with_place(next, lines_kept(case))?;
@@ -39,7 +39,7 @@ fn advance<F: Formula, S: Shelf>(
 
 // How many lines are kept.
 fn lines_kept<F: Formula, S: Shelf>(case: &Case<F, S>) -> usize
-    ensures { result ≡ length (standing F.Formula.meaning S.Shelf.meaning case.now).shelf.kept }
+    ensures { result ≡ length (standing F.meaning S.meaning case.now).shelf.kept }
 {
     match case.verdict() {
         Verdict::Refuted(lines) => lines,

@@ -15,7 +15,7 @@ pub(crate) fn step<F: Formula, S: Shelf>(
     docket: &[u8],
     at: usize,
 ) -> Result<usize, DocketFault>
-    ensures { Stepped (standing F.Formula.meaning S.Shelf.meaning case.old) docket.now at result (standing F.Formula.meaning S.Shelf.meaning case.new) }
+    ensures { Stepped (standing F.meaning S.meaning case.old) docket.now at result (standing F.meaning S.meaning case.new) }
 {
     let claim = claim_at(docket, at)?;
     with_place(make(case, claim), at)?;

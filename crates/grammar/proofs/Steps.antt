@@ -66,8 +66,8 @@ spell_unbegun n m bs Cs C e f =
     append-nil _ ∙ append-nil _
 
 -- the draft d with the word t is lawful, and spelled with t at the end
-abbrev pub Goes_on : Sizes → Draft → Token → Draft → Type 0
-Goes_on S d t e = Lawful S e × (spell e ≡ spell d ++ (t ∷ []))
+abbrev pub GoesOn : Sizes → Draft → Token → Draft → Type 0
+GoesOn S d t e = Lawful S e × (spell e ≡ spell d ++ (t ∷ []))
 
 -- a test that some word is the end fails
 pub not_end : (t : Token) → is_end (Some t) ≡ false
@@ -85,20 +85,20 @@ fresh S n m bs = record {
   fits = omega arith;
 }
 
-step_nothing : (S : Sizes) (t : Token) → Clean S nothing (Some t) → Goes_on S nothing t (after nothing (Some t))
+step_nothing : (S : Sizes) (t : Token) → Clean S nothing (Some t) → GoesOn S nothing t (after nothing (Some t))
 step_nothing S t c = (tt, ap (λ x. x ∷ []) (sym (p_is t (eqb-true (sort (Some t)) 1 (not-false (is_p (Some t)) c.header)))))
 
-step_problem : (S : Sizes) (t : Token) → Clean S problem (Some t) → Goes_on S problem t (after problem (Some t))
+step_problem : (S : Sizes) (t : Token) → Clean S problem (Some t) → GoesOn S problem t (after problem (Some t))
 step_problem S t c = (tt, ap (λ x. Problem ∷ x ∷ []) (sym (cnf_is t (eqb-true (sort (Some t)) 2 (not-false (is_cnf (Some t)) c.header)))))
 
-step_format : (S : Sizes) (t : Token) → Clean S format (Some t) → Goes_on S format t (after format (Some t))
+step_format : (S : Sizes) (t : Token) → Clean S format (Some t) → GoesOn S format t (after format (Some t))
 step_format S t c =
     let k = size (Some t) in
     let a = and_parts (is_natural (Some t)) (leb 1 k && leb k 512) (not-false _ c.size) in
     let b = and_parts (leb 1 k) (leb k 512) a.1 in
     ((leb-true 1 k b.0, leb-true k 512 b.1), ap (λ x. Problem ∷ Cnf ∷ x ∷ []) (sym (natural_is t (eqb-true (sort (Some t)) 4 a.0))))
 
-step_sized : (S : Sizes) (n : ℕ) (t : Token) → Lawful S (sized n) → Clean S (sized n) (Some t) → Goes_on S (sized n) t (after (sized n) (Some t))
+step_sized : (S : Sizes) (n : ℕ) (t : Token) → Lawful S (sized n) → Clean S (sized n) (Some t) → GoesOn S (sized n) t (after (sized n) (Some t))
 step_sized S n t h c =
     let k = size (Some t) in
     let a = and_parts (is_natural (Some t)) (leb k 2048 && leb k S.ends) (not-false _ c.size) in
@@ -117,7 +117,7 @@ module _ (S : Sizes) (n m : ℕ) (bs : List Block) (b : Block) (t : Token) (h : 
   word_is : t ≡ Number (size (Some t))
   word_is = natural_is t (eqb-true (sort (Some t)) 4 natural)
 
-  block_ends : is_zero (Some t) ≡ true → Goes_on S (binding n m bs b) t (matrix n m (b ∷ bs) [] [])
+  block_ends : is_zero (Some t) ≡ true → GoesOn S (binding n m bs b) t (matrix n m (b ∷ bs) [] [])
   block_ends z =
       let zero_size = (and_parts (is_natural (Some t)) (eqb (size (Some t)) 0) z).1 in
       let some : 1 ≤ length b.variables = omega (arith, eqb-false (length b.variables) 0 (sym (cond-true (eqb (size (Some t)) 0) _ _ zero_size) ∙ in_block)) in
@@ -127,7 +127,7 @@ module _ (S : Sizes) (n m : ℕ) (bs : List Block) (b : Block) (t : Token) (h : 
             ap (λ x. spell (binding n m bs b) ++ (x ∷ [])) (sym word),
       )
 
-  variable_more : is_zero (Some t) ≡ false → Goes_on S (binding n m bs b) t (binding n m bs (with_variable (size (Some t)) b))
+  variable_more : is_zero (Some t) ≡ false → GoesOn S (binding n m bs b) t (binding n m bs (with_variable (size (Some t)) b))
   variable_more z =
       let k = size (Some t) in
       let nonzero : eqb k 0 ≡ false = ⊎_elim (λ e. absurd (both_ways (is_natural (Some t)) e natural)) (λ e. e) (and_cases (is_natural (Some t)) (eqb k 0) z) in
@@ -146,8 +146,8 @@ module _ (S : Sizes) (n m : ℕ) (bs : List Block) (b : Block) (t : Token) (h : 
         ap (λ x. prefix_words n m bs ++ (letter b.quantifier ∷ (spelled (λ v. Number v ∷ []) b.variables ++ (x ∷ [])))) (sym word_is) ∙ simp append_assoc,
       )
 
-  step_binding : Goes_on S (binding n m bs b) t (after (binding n m bs b) (Some t))
-  step_binding = cond_both (is_zero (Some t)) _ _ (λ e. Goes_on S (binding n m bs b) t e) block_ends variable_more
+  step_binding : GoesOn S (binding n m bs b) t (after (binding n m bs b) (Some t))
+  step_binding = cond_both (is_zero (Some t)) _ _ (λ e. GoesOn S (binding n m bs b) t e) block_ends variable_more
 
 module _ (S : Sizes) (n m : ℕ) (bs : List Block) (Cs : List (List ℕ)) (C : List ℕ) (t : Token) (h : Lawful S (matrix n m bs Cs C)) (c : Clean S (matrix n m bs Cs C) (Some t)) where
   letter_or_number : (is_number (Some t) ≡ true) ⊎ ((is_letter (Some t) ≡ true) × (unbegun Cs C ≡ true))
@@ -160,7 +160,7 @@ module _ (S : Sizes) (n m : ℕ) (bs : List Block) (Cs : List (List ℕ)) (C : L
   binds_parts = or_parts _ _ c.binds
 
   -- a letter opens a block
-  block_begins : is_letter (Some t) ≡ true → Goes_on S (matrix n m bs Cs C) t (binding n m bs (record { quantifier = size (Some t); variables = [] }))
+  block_begins : is_letter (Some t) ≡ true → GoesOn S (matrix n m bs Cs C) t (binding n m bs (record { quantifier = size (Some t); variables = [] }))
   block_begins l =
       let three = eqb-true (sort (Some t)) 3 l in
       let none : unbegun Cs C ≡ true = ⊎_elim
@@ -202,7 +202,7 @@ module _ (S : Sizes) (n m : ℕ) (bs : List Block) (Cs : List (List ℕ)) (C : L
         (and_cases (is_number (Some t)) (leb m (length Cs)) (sym (cond-false (is_end (Some t)) _ _ (not_end t)) ∙ c.tally))
 
     -- a 0 ends a clause
-    clause_ends : is_zero (Some t) ≡ true → Goes_on S (matrix n m bs Cs C) t (matrix n m bs (C ∷ Cs) [])
+    clause_ends : is_zero (Some t) ≡ true → GoesOn S (matrix n m bs Cs C) t (matrix n m bs (C ∷ Cs) [])
     clause_ends z =
         let zero_size = and_parts (is_natural (Some t)) (eqb (size (Some t)) 0) z in
         let word : t ≡ Number 0 = natural_is t (eqb-true (sort (Some t)) 4 zero_size.0) ∙ ap Number (eqb-true (size (Some t)) 0 zero_size.1) in (
@@ -223,7 +223,7 @@ module _ (S : Sizes) (n m : ℕ) (bs : List Block) (Cs : List (List ℕ)) (C : L
         )
 
     -- any other number is a literal
-    literal_more : is_zero (Some t) ≡ false → Goes_on S (matrix n m bs Cs C) t (matrix n m bs Cs (code_of (Some t) ∷ C))
+    literal_more : is_zero (Some t) ≡ false → GoesOn S (matrix n m bs Cs C) t (matrix n m bs Cs (code_of (Some t) ∷ C))
     literal_more z =
         let k = size (Some t) in
         let count = literal_count Cs C in
@@ -252,13 +252,13 @@ module _ (S : Sizes) (n m : ℕ) (bs : List Block) (Cs : List (List ℕ)) (C : L
           ap (λ x. (prefix_words n m bs ++ spelled ended_clause Cs) ++ (clause_words C ++ (x ∷ []))) (sym (number_is t number_word)) ∙ sym (append_assoc (prefix_words n m bs ++ spelled ended_clause Cs) (clause_words C) (t ∷ [])),
         )
 
-  step_matrix : Goes_on S (matrix n m bs Cs C) t (after (matrix n m bs Cs C) (Some t))
+  step_matrix : GoesOn S (matrix n m bs Cs C) t (after (matrix n m bs Cs C) (Some t))
   step_matrix =
-      cond_both (is_letter (Some t)) _ _ (λ e. Goes_on S (matrix n m bs Cs C) t e) block_begins
-      (λ l. cond_both (is_zero (Some t)) _ _ (λ e. Goes_on S (matrix n m bs Cs C) t e) (clause_ends l) (literal_more l))
+      cond_both (is_letter (Some t)) _ _ (λ e. GoesOn S (matrix n m bs Cs C) t e) block_begins
+      (λ l. cond_both (is_zero (Some t)) _ _ (λ e. GoesOn S (matrix n m bs Cs C) t e) (clause_ends l) (literal_more l))
 
 -- a word that breaks no rule behind a lawful draft makes a lawful draft, which is spelled with that word at its end
-pub step : (S : Sizes) (d : Draft) (t : Token) → Lawful S d → fault S d (Some t) ≡ None → Goes_on S d t (after d (Some t))
+pub step : (S : Sizes) (d : Draft) (t : Token) → Lawful S d → fault S d (Some t) ≡ None → GoesOn S d t (after d (Some t))
 step S nothing t h e = step_nothing S t (rules_kept S nothing (Some t) e)
 step S problem t h e = step_problem S t (rules_kept S problem (Some t) e)
 step S format t h e = step_format S t (rules_kept S format (Some t) e)

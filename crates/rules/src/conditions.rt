@@ -10,24 +10,24 @@ use shelf::Clause;
 
 // Whether two clauses may be resolved upon v: it is existential, the first has it, and the second its negation.
 pub fn is_resolvable<F: Formula>(f: &F, first: Clause<'_>, second: Clause<'_>, v: usize) -> bool
-    ensures test { result ≡ resolvable (F.Formula.meaning f.now) first.entry.codes.now second.entry.codes.now v }
-    ensures meaning { (result ≡ true) ↔ Resolvable (F.Formula.meaning f.now) first.entry.codes.now second.entry.codes.now v }
+    ensures test { result ≡ resolvable (F.meaning f.now) first.entry.codes.now second.entry.codes.now v }
+    ensures meaning { (result ≡ true) ↔ Resolvable (F.meaning f.now) first.entry.codes.now second.entry.codes.now v }
 {
     f.quantifier(v) == 1 && holds(first, v, false) && holds(second, v, true)
 }
 
 // Whether a clause may be reduced by v: it is universal, the clause has it with some sign, and no existential literal lies as deep.
 pub fn is_reducible<F: Formula>(f: &F, parent: Clause<'_>, v: usize) -> bool
-    ensures test { result ≡ reducible (F.Formula.meaning f.now) parent.entry.codes.now v }
-    ensures meaning { (result ≡ true) ↔ Reducible (F.Formula.meaning f.now) parent.entry.codes.now v }
+    ensures test { result ≡ reducible (F.meaning f.now) parent.entry.codes.now v }
+    ensures meaning { (result ≡ true) ↔ Reducible (F.meaning f.now) parent.entry.codes.now v }
 {
     f.quantifier(v) == 2 && holds_variable(parent, v) && is_innermost(f, parent, v)
 }
 
 // Whether every existential literal of the clause has a smaller level than v.
 fn is_innermost<F: Formula>(f: &F, parent: Clause<'_>, v: usize) -> bool
-    ensures test { result ≡ innermost (F.Formula.meaning f.now) parent.entry.codes.now v }
-    ensures meaning { (result ≡ true) ↔ Innermost (F.Formula.meaning f.now) parent.entry.codes.now v }
+    ensures test { result ≡ innermost (F.meaning f.now) parent.entry.codes.now v }
+    ensures meaning { (result ≡ true) ↔ Innermost (F.meaning f.now) parent.entry.codes.now v }
 {
     let level = f.level(v);
     let codes = parent.codes();
@@ -41,7 +41,7 @@ fn is_innermost<F: Formula>(f: &F, parent: Clause<'_>, v: usize) -> bool
 
 // Whether a literal is universal, or has a smaller level than the one given.
 fn is_outside<F: Formula>(f: &F, code: u16, level: u16) -> bool
-    ensures { result ≡ outside (F.Formula.meaning f.now) level code }
+    ensures { result ≡ outside (F.meaning f.now) level code }
 {
     let u = (code / 2) as usize;
     f.quantifier(u) != 1 || f.level(u) < level

@@ -1,6 +1,6 @@
+// The cell shelf and the row shelf, by examples.
 #![tactic(auto)]
 
-// The cell shelf and the row shelf, by examples.
 #[cfg(test)]
 mod clearing;
 #[cfg(test)]

@@ -1,6 +1,6 @@
+// Formula text read and written, by examples.
 #![tactic(auto)]
 
-// Formula text read and written, by examples.
 #[cfg(test)]
 mod buffers;
 #[cfg(test)]

@@ -24,14 +24,14 @@ pub fn put_all(out: &mut [u8], start: usize, bytes: &[u8]) -> usize
 }
 
 // Puts a space.
-pub fn put_space(out: &mut [u8], at: usize) -> usize
+pub(crate) fn put_space(out: &mut [u8], at: usize) -> usize
     ensures { Put (32 ∷ []) out.old at out.new result }
 {
     put(out, at, b' ')
 }
 
 // Ends the line of a level or a clause: 0 and a line feed.
-pub fn put_end(out: &mut [u8], at: usize) -> usize
+pub(crate) fn put_end(out: &mut [u8], at: usize) -> usize
     ensures { Put (codes "0\n") out.old at out.new result }
 {
     put_all(out, at, b"0\n")

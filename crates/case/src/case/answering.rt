@@ -13,7 +13,7 @@ use shelf::Shelf;
 impl<F: Formula, S: Shelf> Case<F, S> {
     // Makes the call.
     pub fn answer(&mut self, call: Call) -> Reply
-        ensures { CallRight (standing F.Formula.meaning S.Shelf.meaning self.old) (meant_call call) (meant_reply result) (standing F.Formula.meaning S.Shelf.meaning self.new) }
+        ensures { CallRight (standing F.meaning S.meaning self.old) (meant_call call) (meant_reply result) (standing F.meaning S.meaning self.new) }
     {
         match call {
             Call::Axiom(clause) => reply(self.axiom(clause)),

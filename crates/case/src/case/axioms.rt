@@ -13,7 +13,7 @@ use shelf::Shelf;
 impl<F: Formula, S: Shelf> Case<F, S> {
     // Claims a clause of the formula; it answers the number of the line, or why it is refused.
     pub fn axiom(&mut self, clause: usize) -> Result<usize, Refusal>
-        ensures { ClaimRight (standing F.Formula.meaning S.Shelf.meaning self.old) (axiom_line clause) result (standing F.Formula.meaning S.Shelf.meaning self.new) }
+        ensures { ClaimRight (standing F.meaning S.meaning self.old) (axiom_line clause) result (standing F.meaning S.meaning self.new) }
     {
         let yielded = self.axiom_clause(clause);
         self.settle(yielded)
@@ -21,7 +21,7 @@ impl<F: Formula, S: Shelf> Case<F, S> {
 
     // The checks in their order, and the clause.
     fn axiom_clause(&self, clause: usize) -> Result<LiteralSet, Refusal>
-        ensures { Yields (standing F.Formula.meaning S.Shelf.meaning self.now) (axiom_line clause) result }
+        ensures { Yields (standing F.meaning S.meaning self.now) (axiom_line clause) result }
     {
         if self.refuted {
             return Err(Refusal::Closed);

@@ -18,7 +18,7 @@ impl<F: Formula, S: Shelf> Case<F, S> {
     // Keeps the clause that the rule of a line yields, where it yields one.
     pub(crate) fn settle(&mut self, yielded: Result<LiteralSet, Refusal>) -> Result<usize, Refusal>
         requires { IfOk yielded (λ clause. Tautological (members clause.words) → ⊥) }
-        ensures { (line : Line) → Yields (standing F.Formula.meaning S.Shelf.meaning self.old) line yielded → Decides (standing F.Formula.meaning S.Shelf.meaning self.old) line result (standing F.Formula.meaning S.Shelf.meaning self.new) }
+        ensures { (line : Line) → Yields (standing F.meaning S.meaning self.old) line yielded → Decides (standing F.meaning S.meaning self.old) line result (standing F.meaning S.meaning self.new) }
     {
         match yielded {
             Ok(clause) => self.keep(clause),
@@ -29,7 +29,7 @@ impl<F: Formula, S: Shelf> Case<F, S> {
     // Keeps a clause as the next line; the empty clause refutes.
     fn keep(&mut self, clause: LiteralSet) -> Result<usize, Refusal>
         requires { Tautological (members clause.words) → ⊥ }
-        ensures { KeepsLine (standing F.Formula.meaning S.Shelf.meaning self.old) (members clause.words) result (standing F.Formula.meaning S.Shelf.meaning self.new) }
+        ensures { KeepsLine (standing F.meaning S.meaning self.old) (members clause.words) result (standing F.meaning S.meaning self.new) }
     {
         match shelve(&mut self.shelf, &clause) {
             Ok(line) => {
@@ -44,7 +44,7 @@ impl<F: Formula, S: Shelf> Case<F, S> {
 // Puts a clause on a shelf.
 fn shelve<S: Shelf>(shelf: &mut S, clause: &LiteralSet) -> Result<usize, ShelfFault>
     requires { Tautological (members clause.now.words) → ⊥ }
-    ensures { Keeps (S.Shelf.meaning shelf.old) (members clause.now.words) result (S.Shelf.meaning shelf.new) }
+    ensures { Keeps (S.meaning shelf.old) (members clause.now.words) result (S.meaning shelf.new) }
 {
     let mut cells = [0u16; 512];
     let len = clause.codes(&mut cells);

@@ -10,16 +10,16 @@ use shelf::Shelf;
 impl<F: Formula, S: Shelf> Case<F, S> {
     // Opens a case: the shelf is cleared.
     pub fn open(formula: F, shelf: S) -> Case<F, S>
-        ensures stands { standing F.Formula.meaning S.Shelf.meaning result ≡ opened (F.Formula.meaning formula) (S.Shelf.meaning shelf) }
+        ensures stands { standing F.meaning S.meaning result ≡ opened (F.meaning formula) (S.meaning shelf) }
         ensures held { result.formula ≡ formula }
-        ensures reached { After [] (standing F.Formula.meaning S.Shelf.meaning result) }
+        ensures reached { After [] (standing F.meaning S.meaning result) }
     {
         Case::cleared(formula, shelf)
     }
 
     // A case with nothing kept.
     fn cleared(formula: F, mut shelf: S) -> Case<F, S>
-        ensures stands { standing F.Formula.meaning S.Shelf.meaning result ≡ opened (F.Formula.meaning formula) (S.Shelf.meaning shelf) }
+        ensures stands { standing F.meaning S.meaning result ≡ opened (F.meaning formula) (S.meaning shelf) }
         ensures held { result.formula ≡ formula }
     {
         shelf.clear();

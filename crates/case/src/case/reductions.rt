@@ -14,7 +14,7 @@ use shelf::Shelf;
 impl<F: Formula, S: Shelf> Case<F, S> {
     // Claims a line without its literal over a universal variable.
     pub fn reduction(&mut self, line: usize, variable: usize) -> Result<usize, Refusal>
-        ensures { ClaimRight (standing F.Formula.meaning S.Shelf.meaning self.old) (reduction line variable) result (standing F.Formula.meaning S.Shelf.meaning self.new) }
+        ensures { ClaimRight (standing F.meaning S.meaning self.old) (reduction line variable) result (standing F.meaning S.meaning self.new) }
     {
         let yielded = self.reduction_clause(line, variable);
         self.settle(yielded)
@@ -22,7 +22,7 @@ impl<F: Formula, S: Shelf> Case<F, S> {
 
     // The checks in their order, and the clause.
     fn reduction_clause(&self, line: usize, variable: usize) -> Result<LiteralSet, Refusal>
-        ensures { Yields (standing F.Formula.meaning S.Shelf.meaning self.now) (reduction line variable) result }
+        ensures { Yields (standing F.meaning S.meaning self.now) (reduction line variable) result }
     {
         if self.refuted {
             return Err(Refusal::Closed);

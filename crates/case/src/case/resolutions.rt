@@ -19,7 +19,7 @@ impl<F: Formula, S: Shelf> Case<F, S> {
         second: usize,
         variable: usize,
     ) -> Result<usize, Refusal>
-        ensures { ClaimRight (standing F.Formula.meaning S.Shelf.meaning self.old) (resolution first second variable) result (standing F.Formula.meaning S.Shelf.meaning self.new) }
+        ensures { ClaimRight (standing F.meaning S.meaning self.old) (resolution first second variable) result (standing F.meaning S.meaning self.new) }
     {
         let yielded = self.resolution_clause(first, second, variable);
         self.settle(yielded)
@@ -32,7 +32,7 @@ impl<F: Formula, S: Shelf> Case<F, S> {
         second: usize,
         variable: usize,
     ) -> Result<LiteralSet, Refusal>
-        ensures { Yields (standing F.Formula.meaning S.Shelf.meaning self.now) (resolution first second variable) result }
+        ensures { Yields (standing F.meaning S.meaning self.now) (resolution first second variable) result }
     {
         if self.refuted {
             return Err(Refusal::Closed);

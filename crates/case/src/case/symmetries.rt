@@ -17,7 +17,7 @@ use symmetry::{carries, is_admissible};
 impl<F: Formula, S: Shelf> Case<F, S> {
     // Claims the image of a line under a symmetry of the formula.
     pub fn symmetry(&mut self, line: usize, card: Card) -> Result<usize, Refusal>
-        ensures { ClaimRight (standing F.Formula.meaning S.Shelf.meaning self.old) (symmetry line (meant card)) result (standing F.Formula.meaning S.Shelf.meaning self.new) }
+        ensures { ClaimRight (standing F.meaning S.meaning self.old) (symmetry line (meant card)) result (standing F.meaning S.meaning self.new) }
     {
         let yielded = self.symmetry_clause(line, &card);
         self.settle(yielded)
@@ -25,7 +25,7 @@ impl<F: Formula, S: Shelf> Case<F, S> {
 
     // The checks in their order, and the clause.
     fn symmetry_clause(&self, line: usize, card: &Card) -> Result<LiteralSet, Refusal>
-        ensures { Yields (standing F.Formula.meaning S.Shelf.meaning self.now) (symmetry line (meant card.now)) result }
+        ensures { Yields (standing F.meaning S.meaning self.now) (symmetry line (meant card.now)) result }
     {
         if self.refuted {
             return Err(Refusal::Closed);

@@ -13,15 +13,15 @@ use shelf::Shelf;
 impl<F: Formula, S: Shelf> Case<F, S> {
     // Whether the formula is refuted, and how many claims were granted since the opening.
     pub fn verdict(&self) -> Verdict
-        ensures says { Says (standing F.Formula.meaning S.Shelf.meaning self.now) result }
-        ensures right { (calls : List Call) → After calls (standing F.Formula.meaning S.Shelf.meaning self.now) → VerdictRight calls (standing F.Formula.meaning S.Shelf.meaning self.now) result }
+        ensures says { Says (standing F.meaning S.meaning self.now) result }
+        ensures right { (calls : List Call) → After calls (standing F.meaning S.meaning self.now) → VerdictRight calls (standing F.meaning S.meaning self.now) result }
     {
         self.tally()
     }
 
     // The verdict by the flag and the lines kept.
     fn tally(&self) -> Verdict
-        ensures { Says (standing F.Formula.meaning S.Shelf.meaning self.now) result }
+        ensures { Says (standing F.meaning S.meaning self.now) result }
     {
         let granted = self.shelf.count();
         if self.refuted {

@@ -1,5 +1,5 @@
 // The literals of a set, written out.
-ghost use Rattle.std.specs.Prelude.{◌≡◌, ℕ, ◌+◌, ◌*◌, ◌<◌, ◌≤◌, List, length, set, slice_set};
+ghost use Rattle.std.specs.Prelude.{◌≡◌, ℕ, ◌+◌, ◌*◌, ◌<◌, ◌≤◌, List, length, slice_set};
 ghost use Rattle.sets.specs.Laid.{laid};
 ghost use Rattle.sets.specs.Members.{members};
 ghost use Rattle.sets.specs.Steps.{Written};

@@ -24,7 +24,7 @@ impl LiteralSet {
 
     // The set of the literals of clause j; empty where there is no such clause.
     pub fn of_clause<F: Formula>(f: &F, j: usize) -> LiteralSet
-        ensures { members result.words ≡ sorted (clause_of (F.Formula.meaning f.now) j) }
+        ensures { members result.words ≡ sorted (clause_of (F.meaning f.now) j) }
     {
         let mut clause = LiteralSet::new();
         for i in 0..f.clause_len(j) {

@@ -5,5 +5,5 @@ use Rattle.cells.proofs.cell_shelf.CellShelf.put.Goals as goal
 
 pub invariant_of-self : goal.invariant_of-self
 invariant_of-self c =
-    let f = past c.args.self.now (c.args.self.now.used + c.args.i) c.args.cell (omega arith) in
+    let f = past c.args.self.now _ _ (omega arith) in
     record { within = f.within; few = f.few; long = f.long; laid = f.laid; counted = f.counted; indexed = f.indexed; proper = f.proper }
