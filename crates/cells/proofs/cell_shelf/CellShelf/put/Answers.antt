@@ -1,5 +1,5 @@
 -- A write past the lines leaves them as they are.
-use Rattle.std.proofs.Common.{◌+◌, arith}
+use Rattle.std.proofs.Common.{arith}
 use Rattle.cells.proofs.Standing.{past}
 use Rattle.cells.proofs.cell_shelf.CellShelf.put.Goals as goal
 
