@@ -59,7 +59,9 @@ def spelled(name):
     return "_".join(parts)
 
 
-def turned(piece, to):
+def turned(piece, to, by_recursion):
+    if by_recursion:
+        piece = re.sub(r"(?<![\w'.-])All(?![\w'-])", "AllByRecursion", piece)
     piece = NAME.sub(lambda m: to.get(m.group(0), m.group(0)), piece)
     for half, whole in HALF.items():
         piece = re.sub(rf"\b{half}\b", whole, piece)
@@ -90,9 +92,11 @@ def main():
     for s in sorted(set(back) & set(words)):
         print(f"look: {back[s][0]} becomes {s}, which stands already")
     for p, t in texts.items():
+        # the kit's script imports this under a name that means something else in the kit, which the gate refuses
+        by_recursion = "AllByRecursion as All" in t
         lines = []
-        for line in t.split("\n"):
-            lines.append("".join(turned(piece, to) if is_code else piece for is_code, piece in cut(line)))
+        for line in t.replace("AllByRecursion as All", "AllByRecursion").split("\n"):
+            lines.append("".join(turned(piece, to, by_recursion) if is_code else piece for is_code, piece in cut(line)))
         new = "\n".join(lines)
         if new != t:
             with open(p, "w", encoding="utf-8") as f:
