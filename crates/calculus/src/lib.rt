@@ -4,8 +4,6 @@
 ghost use Rattle.calculus.specs.Examples.{Examples};
 
 // The definitions of well-formedness and truth hold of two small formulas what they should.
-pub fn examples_stand() -> u8
+pub fn examples_stand()
     ensures { Examples }
-{
-    0
-}
+{}

@@ -1,7 +1,7 @@
 // Images of the formula of a text, and images of images.
 use super::tools::{card, read};
 use cards::Card;
-use formula::Formula;
+use formula::{Formula, Quantifier};
 use images::Image;
 use std::process::Abort;
 use std::test::Fail;
@@ -12,15 +12,15 @@ const EXAMPLE: &str = "p cnf 3 3 e 1 3 0 a 2 0 1 2 -3 1 0 0 -1 -2 0";
 
 const CLAUSES: &[&[u16]] = &[&[2, 4, 7, 2], &[], &[3, 5]];
 
-// The formula has the example's prefix and these clauses, and beyond them every answer is 0.
+// The formula has the example's prefix and these clauses; beyond them there is no quantifier, and every other answer is 0.
 fn answers<F: Formula>(rt: &impl Abort, f: &F, clauses: &[&[u16]]) -> Result<(), Fail> {
-    let prefix: &[(usize, u16, u16)] = &[
-        (0, 0, 0),
-        (1, 1, 1),
-        (2, 2, 2),
-        (3, 1, 1),
-        (4, 0, 0),
-        (513, 0, 0),
+    let prefix: &[(usize, u16, Option<Quantifier>)] = &[
+        (0, 0, None),
+        (1, 1, Some(Quantifier::Exists)),
+        (2, 2, Some(Quantifier::Forall)),
+        (3, 1, Some(Quantifier::Exists)),
+        (4, 0, None),
+        (513, 0, None),
     ];
     assert_eq!(rt; f.variable_count(), 3);
     for (v, level, quantifier) in prefix {
@@ -46,10 +46,8 @@ fn image_answers<F: Formula + Drop>(
     card: Card,
     clauses: &[&[u16]],
 ) -> Result<(), Fail> {
-    match Image::new(f, card) {
-        Ok(image) => answers(rt, &image, clauses),
-        Err(_) => Err(Fail::new("inadmissible")),
-    }
+    let image = Image::new(f, card).ok().ok_or("inadmissible")?;
+    answers(rt, &image, clauses)
 }
 
 // The image, under the second card, of the image under the first has these clauses.
@@ -60,10 +58,8 @@ fn nested_answers<F: Formula + Drop>(
     second: Card,
     clauses: &[&[u16]],
 ) -> Result<(), Fail> {
-    match Image::new(f, first) {
-        Ok(image) => image_answers(rt, image, second, clauses),
-        Err(_) => Err(Fail::new("inadmissible")),
-    }
+    let image = Image::new(f, first).ok().ok_or("inadmissible")?;
+    image_answers(rt, image, second, clauses)
 }
 
 // There is no image under the card, and the formula that comes back has these clauses.
@@ -73,10 +69,8 @@ fn comes_back<F: Formula + Drop>(
     card: Card,
     clauses: &[&[u16]],
 ) -> Result<(), Fail> {
-    match Image::new(f, card) {
-        Ok(_) => Err(Fail::new("admissible")),
-        Err(refused) => answers(rt, &refused.below, clauses),
-    }
+    let refused = Image::new(f, card).err().ok_or("admissible")?;
+    answers(rt, &refused.below, clauses)
 }
 
 // Under the first card there is an image; that image has none under the second, and comes back with these clauses.
@@ -87,10 +81,8 @@ fn image_comes_back<F: Formula + Drop>(
     second: Card,
     clauses: &[&[u16]],
 ) -> Result<(), Fail> {
-    match Image::new(f, first) {
-        Ok(image) => comes_back(rt, image, second, clauses),
-        Err(_) => Err(Fail::new("inadmissible")),
-    }
+    let image = Image::new(f, first).ok().ok_or("inadmissible")?;
+    comes_back(rt, image, second, clauses)
 }
 
 // The image under a card: each literal in its place goes to its image.

@@ -5,21 +5,13 @@ use std::alloc::{AllocError, Global};
 use std::process::Abort;
 use std::test::Fail;
 
-// What comes of pairs: a card, or the kind of their fault and the pair at which it stands.
-fn outcome(pairs: &[(u16, u16)]) -> (&'static str, usize) {
-    match Card::from_pairs(pairs) {
-        Ok(_) => ("card", 0),
-        Err(CardFault::Many) => ("many", 0),
-        Err(CardFault::Variable(k)) => ("variable", k),
-        Err(CardFault::Image(k)) => ("image", k),
-        Err(CardFault::Unnamed(k)) => ("unnamed", k),
-    }
-}
+// Pairs, and the fault of the list; none where they make a card.
+type Row = (&'static [(u16, u16)], Option<CardFault>);
 
-// Each list of pairs comes to the outcome beside it.
-fn all_come_to(rt: &impl Abort, rows: &[(&[(u16, u16)], &str, usize)]) {
-    for (pairs, kind, k) in rows {
-        assert_eq!(rt; outcome(*pairs), (*kind, *k));
+// Each list of pairs has the fault beside it.
+fn all_come_to(rt: &impl Abort, rows: &[Row]) {
+    for (pairs, fault) in rows {
+        assert_eq!(rt; Card::from_pairs(*pairs).err(), *fault);
     }
 }
 
@@ -35,13 +27,13 @@ fn negations(heap: Global) -> Result<Vec<(u16, u16)>, AllocError> {
 // Pairs that make a card: none, variables that stay, signs, an exchange, a cycle, the last variable.
 #[test]
 fn lawful(rt: HostRuntime) {
-    let rows: &[(&[(u16, u16)], &str, usize)] = &[
-        (&[], "card", 0),
-        (&[(1, 2)], "card", 0),
-        (&[(1, 3)], "card", 0),
-        (&[(1, 4), (2, 3)], "card", 0),
-        (&[(1, 5), (2, 6), (3, 3), (512, 1025)], "card", 0),
-        (&[(1, 1024), (512, 2)], "card", 0),
+    let rows: &[Row] = &[
+        (&[], None),
+        (&[(1, 2)], None),
+        (&[(1, 3)], None),
+        (&[(1, 4), (2, 3)], None),
+        (&[(1, 5), (2, 6), (3, 3), (512, 1025)], None),
+        (&[(1, 1024), (512, 2)], None),
     ];
     all_come_to(&rt, rows);
 }
@@ -49,15 +41,15 @@ fn lawful(rt: HostRuntime) {
 // A variable that is 0, above 512, or not above the one before it.
 #[test]
 fn variables(rt: HostRuntime) {
-    let rows: &[(&[(u16, u16)], &str, usize)] = &[
-        (&[(0, 2)], "variable", 0),
-        (&[(513, 2)], "variable", 0),
-        (&[(65535, 2)], "variable", 0),
-        (&[(1, 2), (513, 4)], "variable", 1),
+    let rows: &[Row] = &[
+        (&[(0, 2)], Some(CardFault::Variable(0))),
+        (&[(513, 2)], Some(CardFault::Variable(0))),
+        (&[(65535, 2)], Some(CardFault::Variable(0))),
+        (&[(1, 2), (513, 4)], Some(CardFault::Variable(1))),
         // repeated, descending, and below one that is not the first
-        (&[(1, 2), (1, 4)], "variable", 1),
-        (&[(2, 4), (1, 2)], "variable", 1),
-        (&[(1, 2), (3, 6), (2, 4)], "variable", 2),
+        (&[(1, 2), (1, 4)], Some(CardFault::Variable(1))),
+        (&[(2, 4), (1, 2)], Some(CardFault::Variable(1))),
+        (&[(1, 2), (3, 6), (2, 4)], Some(CardFault::Variable(2))),
     ];
     all_come_to(&rt, rows);
 }
@@ -65,17 +57,17 @@ fn variables(rt: HostRuntime) {
 // An image that is no literal, or is over the variable of an image before it.
 #[test]
 fn images(rt: HostRuntime) {
-    let rows: &[(&[(u16, u16)], &str, usize)] = &[
-        (&[(1, 0)], "image", 0),
-        (&[(1, 1)], "image", 0),
-        (&[(1, 1026)], "image", 0),
-        (&[(1, 1027)], "image", 0),
-        (&[(1, 65535)], "image", 0),
-        (&[(1, 2), (2, 1026)], "image", 1),
+    let rows: &[Row] = &[
+        (&[(1, 0)], Some(CardFault::Image(0))),
+        (&[(1, 1)], Some(CardFault::Image(0))),
+        (&[(1, 1026)], Some(CardFault::Image(0))),
+        (&[(1, 1027)], Some(CardFault::Image(0))),
+        (&[(1, 65535)], Some(CardFault::Image(0))),
+        (&[(1, 2), (2, 1026)], Some(CardFault::Image(1))),
         // repeated, and with the other sign
-        (&[(1, 2), (2, 2)], "image", 1),
-        (&[(1, 2), (2, 3)], "image", 1),
-        (&[(1, 4), (2, 6), (3, 5)], "image", 2),
+        (&[(1, 2), (2, 2)], Some(CardFault::Image(1))),
+        (&[(1, 2), (2, 3)], Some(CardFault::Image(1))),
+        (&[(1, 4), (2, 6), (3, 5)], Some(CardFault::Image(2))),
     ];
     all_come_to(&rt, rows);
 }
@@ -83,13 +75,16 @@ fn images(rt: HostRuntime) {
 // An image over a variable that no pair names; the first such pair is told.
 #[test]
 fn unnamed(rt: HostRuntime) {
-    let rows: &[(&[(u16, u16)], &str, usize)] = &[
-        (&[(1, 4)], "unnamed", 0),
-        (&[(1, 1025)], "unnamed", 0),
-        (&[(1, 2), (2, 6)], "unnamed", 1),
-        (&[(1, 4), (3, 8)], "unnamed", 0),
-        (&[(1, 5), (2, 6), (512, 1025)], "unnamed", 1),
-        (&[(1, 4), (2, 2), (3, 8), (5, 12)], "unnamed", 2),
+    let rows: &[Row] = &[
+        (&[(1, 4)], Some(CardFault::Unnamed(0))),
+        (&[(1, 1025)], Some(CardFault::Unnamed(0))),
+        (&[(1, 2), (2, 6)], Some(CardFault::Unnamed(1))),
+        (&[(1, 4), (3, 8)], Some(CardFault::Unnamed(0))),
+        (&[(1, 5), (2, 6), (512, 1025)], Some(CardFault::Unnamed(1))),
+        (
+            &[(1, 4), (2, 2), (3, 8), (5, 12)],
+            Some(CardFault::Unnamed(2)),
+        ),
     ];
     all_come_to(&rt, rows);
 }
@@ -97,17 +92,17 @@ fn unnamed(rt: HostRuntime) {
 // Pair by pair, the variable before the image; last the variables that no pair names.
 #[test]
 fn first_of_two(rt: HostRuntime) {
-    let rows: &[(&[(u16, u16)], &str, usize)] = &[
-        (&[(0, 0)], "variable", 0),
-        (&[(513, 1026)], "variable", 0),
-        (&[(1, 2), (1, 2)], "variable", 1),
+    let rows: &[Row] = &[
+        (&[(0, 0)], Some(CardFault::Variable(0))),
+        (&[(513, 1026)], Some(CardFault::Variable(0))),
+        (&[(1, 2), (1, 2)], Some(CardFault::Variable(1))),
         // a bad image in pair 0, a bad variable in pair 1; and the other way round
-        (&[(1, 1), (0, 2)], "image", 0),
-        (&[(0, 2), (1, 1)], "variable", 0),
+        (&[(1, 1), (0, 2)], Some(CardFault::Image(0))),
+        (&[(0, 2), (1, 1)], Some(CardFault::Variable(0))),
         // an unnamed variable in pair 0, and another fault in pair 1
-        (&[(1, 4), (0, 2)], "variable", 1),
-        (&[(1, 4), (3, 4)], "image", 1),
-        (&[(1, 4), (3, 1)], "image", 1),
+        (&[(1, 4), (0, 2)], Some(CardFault::Variable(1))),
+        (&[(1, 4), (3, 4)], Some(CardFault::Image(1))),
+        (&[(1, 4), (3, 1)], Some(CardFault::Image(1))),
     ];
     all_come_to(&rt, rows);
 }
@@ -117,18 +112,18 @@ fn first_of_two(rt: HostRuntime) {
 fn counts(rt: HostRuntime) -> Result<(), Fail> {
     let pairs = negations(rt.alloc())?;
     let zeros = vec![in rt.alloc(); (0u16, 0u16); 600]?;
-    let rows: &[(usize, &str, &str)] = &[
-        (0, "card", "card"),
-        (1, "card", "variable"),
-        (512, "card", "variable"),
-        (513, "many", "many"),
-        (600, "many", "many"),
+    let rows: &[(usize, Option<CardFault>, Option<CardFault>)] = &[
+        (0, None, None),
+        (1, None, Some(CardFault::Variable(0))),
+        (512, None, Some(CardFault::Variable(0))),
+        (513, Some(CardFault::Many), Some(CardFault::Many)),
+        (600, Some(CardFault::Many), Some(CardFault::Many)),
     ];
     for (count, of_pairs, of_zeros) in rows {
         let some = pairs.get(0..*count).ok_or("too many")?;
-        assert_eq!(rt; outcome(some), (*of_pairs, 0));
+        assert_eq!(rt; Card::from_pairs(some).err(), *of_pairs);
         let some = zeros.get(0..*count).ok_or("too many")?;
-        assert_eq!(rt; outcome(some), (*of_zeros, 0));
+        assert_eq!(rt; Card::from_pairs(some).err(), *of_zeros);
     }
     Ok(())
 }

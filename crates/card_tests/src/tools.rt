@@ -6,18 +6,12 @@ use text::Outline;
 
 // The card that the pairs make.
 pub(crate) fn card(pairs: &[(u16, u16)]) -> Result<Card, Fail> {
-    match Card::from_pairs(pairs) {
-        Ok(card) => Ok(card),
-        Err(_) => Err(Fail::new("no card")),
-    }
+    Ok(Card::from_pairs(pairs)?)
 }
 
 // The outline of the formula of a text, whose clauses then lie in the cells.
 pub(crate) fn read(text: &str, literals: &mut [u16], ends: &mut [u16]) -> Result<Outline, Fail> {
-    match text::read(text.as_bytes(), literals, ends) {
-        Ok(outline) => Ok(outline),
-        Err(_) => Err(Fail::new("no formula")),
-    }
+    text::read(text.as_bytes(), literals, ends).map_err(|_| Fail::new("no formula"))
 }
 
 // The card moves no code, be it one of a literal or not.

@@ -1,5 +1,5 @@
 -- The images of two cards one after the other, and that they make the card that joins them.
-use Rattle.std.proofs.Common.{◌≡◌, ℕ, ◌*◌, ◌<◌, ◌≤◌, List, length, get_or, sym, ap, ◌∙◌, subst, ⊎_elim, arith}
+use Rattle.std.proofs.Common.{◌≡◌, ℕ, ◌*◌, ◌<◌, List, length, get_or, sym, ap, ◌∙◌, subst, ⊎_elim, arith}
 use Rattle.calculus.specs.Literals.{var}
 use Rattle.calculus.specs.Meaning.{Variable, Code}
 use Rattle.laws.specs.Cards.{Card, act}
@@ -9,20 +9,19 @@ use Rattle.cards.specs.Images.{Permutes}
 use Rattle.cards.specs.Maps.{Joins}
 use Rattle.cards.proofs.Actions.{by_variables, act_code, act_over, unmoved}
 
--- the variables below n have the images that second gives those of first
-pub record Joined (first second : Card) (n : ℕ) (images : List ℕ) : Type 0 where
+-- each variable has the image that second gives that of first
+pub record Joined (first second : Card) (images : List ℕ) : Type 0 where
   pub long : length images ≡ 513
-  pub none : get_or images 0 0 ≡ 0
-  pub each : (v : ℕ) → 1 ≤ v → v < n → get_or images v 0 ≡ act second (get_or first.images v 0)
+  pub each : (v : ℕ) → v < 513 → get_or images v 0 ≡ act second (get_or first.images v 0)
 
-module _ (first second : Card) (n : ℕ) (images : List ℕ) (all : 513 ≤ n) (so_far : Joined first second n images) where
+module _ (first second : Card) (images : List ℕ) (joined : Joined first second images) where
   at : (v : ℕ) → Variable 512 v → get_or images v 0 ≡ act second (get_or first.images v 0)
-  at v b = so_far.each v b.0 (omega (arith, b.1))
+  at v b = joined.each v (omega (arith, b.1))
 
   pub permuted : Permutes images
   permuted = record {
-    long = so_far.long;
-    none = so_far.none;
+    long = joined.long;
+    none = joined.each 0 (omega arith) ∙ (ap (act second) first.none ∙ unmoved second 0 (λ b. omega (arith, b.0)));
     codes = λ v b. subst (Code 512) (sym (at v b)) (act_code second (get_or first.images v 0) (first.codes v b));
     apart = λ v w b c e.
         first.apart v w b c (act_over second (get_or first.images v 0) (get_or first.images w 0) (sym (ap var (at v b)) ∙ (e ∙ ap var (at w c))));

@@ -1,4 +1,5 @@
 pub mod Actions
+mod Calls
 pub mod Composites
 pub mod Inverses
 pub mod Marks

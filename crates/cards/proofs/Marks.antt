@@ -1,5 +1,5 @@
 -- Marks, lists of which one place is written, and the first number of which something does not hold.
-use Rattle.std.proofs.Common.{◌≡◌, ℕ, zero, suc, ◌+◌, ◌*◌, ◌<◌, Bool, true, false, ◌⊎◌, List, length, get_or, set, replicate, sym, refl, ◌∙◌, subst, inl, inr, ⊎_elim, arith, get_or-set_other, get_or-set_same, below_more}
+use Rattle.std.proofs.Common.{◌≡◌, ℕ, zero, suc, ◌<◌, Bool, true, false, ◌⊎◌, List, length, get_or, set, replicate, sym, refl, ◌∙◌, subst, inl, inr, ⊎_elim, arith, get_or-set_other, get_or-set_same}
 use Rattle.std.proofs.lemmas.Bool.{cases_eq}
 
 pub unmarked : (n v : ℕ) → get_or (replicate n false) v false ≡ false
@@ -12,13 +12,6 @@ pub still_marked : (marks : List Bool) (v w : ℕ) → v < length marks → get_
 still_marked marks v w h e =
     ⊎_elim (λ i. subst (λ u. get_or (set marks v true) u false ≡ true) (sym i) (get_or-set_same marks v true false h))
     (λ n. get_or-set_other marks v w true false n ∙ e) (cases_eq w v)
-
--- the doubles below v, and that of v
-pub doubles : (images : List ℕ) (v : ℕ) → v < length images → ((u : ℕ) → u < v → get_or images u 0 ≡ 2 * u) → (u : ℕ) → u < v + 1
-    → get_or (set images v (2 * v)) u 0 ≡ 2 * u
-doubles images v h below =
-    below_more (λ u. get_or (set images v (2 * v)) u 0 ≡ 2 * u) v (λ u l. get_or-set_other images v u (2 * v) 0 (omega arith) ∙ below u l)
-    (get_or-set_same images v (2 * v) 0 h)
 
 abbrev pub Decides : (ℕ → Type 0) → Type 0
 Decides P = (k : ℕ) → P k ⊎ (P k → ⊥)

@@ -81,11 +81,12 @@ module _ (pairs : List (ℕ × ℕ)) (n last : ℕ) (images : List ℕ) (named s
         seen_no = λ w none. get_or-set_other seen (var x) w true false (λ e. none n (omega arith) (sym e)) ∙ read.seen_no w (λ j l. none j (omega arith));
       }
 
-  pub step_to : (named_next SeenNext : List Bool) → named_next ≡ set named v true → SeenNext ≡ set seen (var x) true → Rises last v × Fresh seen x
-      → Read pairs (n + 1) v (set images v x) named_next SeenNext
-  step_to named_next SeenNext e i (up, new) =
-      subst (λ m. Read pairs (n + 1) v (set images v x) m SeenNext) (sym e)
-      (subst (λ m. Read pairs (n + 1) v (set images v x) (set named v true) m) (sym i) (step up new))
+  pub step_to : (place : ℕ) (named_next seen_next : List Bool) → place ≡ v → named_next ≡ set named v true → seen_next ≡ set seen (var x) true
+      → Rises last v × Fresh seen x → Read pairs (n + 1) v (set images place x) named_next seen_next
+  step_to place named_next seen_next p e i (up, new) =
+      subst (λ k. Read pairs (n + 1) v (set images k x) named_next seen_next) (sym p)
+      (subst (λ m. Read pairs (n + 1) v (set images v x) m seen_next) (sym e)
+      (subst (λ m. Read pairs (n + 1) v (set images v x) (set named v true) m) (sym i) (step up new)))
 
   -- a pair that is refused is the first fault
   pub refused : (e : CardFault) → n < length pairs → Judged n v x last seen e → FirstFault pairs e

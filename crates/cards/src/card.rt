@@ -7,9 +7,10 @@ ghost use Rattle.cards.specs.Images.{Permutes};
 mod acting;
 mod joining;
 mod making;
+mod marks;
 
 // Every image is a literal, and no two variables have images over the same variable. Place 0 holds 0.
-#[derive(Clone, Copy)]
+#[derive(Clone, Copy, Debug, PartialEq, Eq)]
 pub struct Card {
     images: [u16; 513],
     ghost long: { length images ≡ 513 },

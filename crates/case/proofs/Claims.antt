@@ -1,5 +1,5 @@
 -- From the checks that hold or fail to the answer of a claim, and from the answer to what calls lead to.
-use Rattle.std.proofs.Common.{◌≡◌, ℕ, Bool, true, false, not, ◌||◌, ◌↔◌, List, [], ◌∷◌, ◌++◌, length, Ok, Err, Result, sym, refl, ap, ◌∙◌, subst, inl, inr, arith}
+use Rattle.std.proofs.Common.{◌≡◌, ℕ, Bool, true, false, not, ◌||◌, ◌↔◌, List, [], ◌∷◌, ◌++◌, length, Ok, Err, Result, MatchResult, sym, refl, ap, ◌∙◌, subst, inl, inr, arith}
 use Rattle.std.proofs.lemmas.Bool.{or_parts, not-true, not_from_false}
 use Rattle.laws.specs.Checks.{Check, conditions, Hold, FailsWith}
 use Rattle.laws.specs.Claims.{Answer, keeps, refused, claim, is_empty, closed}
@@ -14,8 +14,14 @@ use Rattle.laws.proofs.Rules.{gives_given, gives_one}
 use Rattle.case.specs.Answers.{refusal_number, claim_reply}
 use Rattle.case.specs.Claimed.{outcome, clause_by, Claimed, Judged, After, GoesOn, ClaimRight}
 use Rattle.case.specs.Standing.{Standing, with_line}
-use Rattle.case.specs.Steps.{Decides, KeepsLine}
+use Rattle.case.specs.Steps.{KeepsLine}
 use Rattle.case.specs.declared.refusal.Refusal.{Refusal}
+
+-- all checks hold, and the clause is kept as the next line; or some check fails, and nothing has changed
+abbrev pub Decides : Standing → Line → Result ℕ Refusal → Standing → Type 0
+Decides s line r t =
+    MatchResult r (λ p. Hold (checks_when (s.refuted ≡ false) s.shelf.store s.formula s.shelf.kept line) × (p ≡ length s.shelf.kept) × (t ≡ with_line s (clause_by s line)))
+    (λ e. FailsWith (refusal_number e) (checks_when (s.refuted ≡ false) s.shelf.store s.formula s.shelf.kept line) × (t ≡ s))
 
 -- conditions one after the other
 
@@ -104,7 +110,7 @@ or_false : (b : Bool) → (b || false) ≡ b
 or_false true = refl
 or_false false = refl
 
-closed_push : (kept : List (List ℕ)) (C : List ℕ) → closed kept ≡ false → closed (kept ++ (C ∷ [])) ≡ is_empty C
+pub closed_push : (kept : List (List ℕ)) (C : List ℕ) → closed kept ≡ false → closed (kept ++ (C ∷ [])) ≡ is_empty C
 closed_push [] C h = or_false (is_empty C)
 closed_push (D ∷ kept) C h =
     let p : (is_empty D ≡ false) × (closed kept ≡ false) = or_parts (is_empty D) (closed kept) h in

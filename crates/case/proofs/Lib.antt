@@ -4,6 +4,7 @@ pub mod Keeping
 pub mod Fetching
 pub mod Axioms
 pub mod Resolutions
+pub mod Symmetries
 pub mod Settling
 pub mod Verdicts
 pub mod Refuting

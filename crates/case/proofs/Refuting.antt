@@ -17,14 +17,15 @@ use Rattle.laws.proofs.Sets.{in_right}
 use Rattle.case.specs.Answers.{meant_call}
 use Rattle.case.specs.Promise.{EndsRefuted}
 use Rattle.case.specs.declared.call.Call.{Call}
-use Rattle.case.specs.declared.call.Call.TheVariants.{Axiom, Resolution, Reduction, Verdict}
+use Rattle.case.specs.declared.call.Call.TheVariants.{Claim, Verdict}
+use Rattle.case.specs.declared.claim.Claim.TheVariants.{Axiom, Resolution, Reduction}
 use Rattle.case.proofs.Verdicts.{said_false}
 
 -- the call that claims a line, where it is no symmetry line
 call_of : (l : Line) → Plain l → (c : Call) × (meant_call c ≡ claims l)
-call_of (axiom_line j) p = (Axiom j, refl)
-call_of (resolution i j v) p = (Resolution i j v, refl)
-call_of (reduction i v) p = (Reduction i v, refl)
+call_of (axiom_line j) p = (Claim (Axiom j), refl)
+call_of (resolution i j v) p = (Claim (Resolution i j v), refl)
+call_of (reduction i v) p = (Claim (Reduction i v), refl)
 call_of (symmetry i card) p = absurd p
 
 calls_of : (ls : List Line) → AllByRecursion Plain ls → (cs : List Call) × (map meant_call cs ≡ map claims ls)

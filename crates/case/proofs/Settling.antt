@@ -1,15 +1,16 @@
 -- From the clause that a line's rule yields to the answer of its claim.
-use Rattle.std.proofs.Common.{◌≡◌, ℕ, Ok, Err, Result, refl, subst, inl, inr}
+use Rattle.std.proofs.Common.{ℕ, Ok, Err, Result, refl, subst, inl, inr}
 use Rattle.laws.specs.Checks.{conditions, Hold, FailsWith}
 use Rattle.laws.specs.Lines.{Line, axiom_line, resolution, reduction, symmetry}
 use Rattle.sets.specs.Members.{members}
-use Rattle.sets.specs.declared.set.LiteralSet.{LiteralSet}
+use Rattle.sets.specs.declared.clause_set.ClauseSet.{ClauseSet}
 use Rattle.case.specs.Answers.{refusal_number}
+use Rattle.case.specs.Claimed.{ClaimRight}
 use Rattle.case.specs.Standing.{Standing}
-use Rattle.case.specs.Steps.{rule_checks, Yields, Decides, KeepsLine}
+use Rattle.case.specs.Steps.{rule_checks, Yields, KeepsLine}
 use Rattle.case.specs.declared.refusal.Refusal.{Refusal}
 use Rattle.case.proofs.Axioms.{axiom_holds, axiom_fails}
-use Rattle.case.proofs.Claims.{fails_before, decides_kept}
+use Rattle.case.proofs.Claims.{fails_before, decides_kept, claim_right}
 use Rattle.case.proofs.Resolutions.{resolution_holds, resolution_fails}
 
 rule_holds : (s : Standing) (line : Line) → Hold (rule_checks s line) → Hold (conditions s.formula s.shelf.kept line)
@@ -24,16 +25,14 @@ rule_fails s (resolution p q v) k h = resolution_fails s p q v k h
 rule_fails s (reduction p v) k h = h
 rule_fails s (symmetry p card) k h = h
 
-module _ (s : Standing) (yielded : Result LiteralSet Refusal) where
-  pub settles_kept :
-      (clause : LiteralSet) → yielded ≡ Ok clause → (r : Result ℕ Refusal) (t : Standing) → KeepsLine s (members clause.words) r t →
-      (line : Line) → Yields s line yielded → Decides s line r t
-  settles_kept clause e r t k line y =
-      let ((still, h), is, free) = subst (Yields s line) e y in decides_kept s line r t still (rule_holds s line h) (subst (λ C. KeepsLine s C r t) is k)
+module _ (s : Standing) (line : Line) where
+  -- the rule's clause is kept where there is room for it
+  pub claim_kept :
+      (clause : ClauseSet) → Yields s line (Ok clause) → (r : Result ℕ Refusal) (t : Standing) → KeepsLine s (members clause.literals.words) r t → ClaimRight s line r t
+  claim_kept clause ((still, h), is) r t k =
+      claim_right s line r t (decides_kept s line r t still (rule_holds s line h) (subst (λ C. KeepsLine s C r t) is k))
 
-  refuses : (refusal : Refusal) (line : Line) → Yields s line (Err refusal) → Decides s line (Err refusal) s
-  refuses refusal line (inl f) = (inl f, refl)
-  refuses refusal line (inr (still, f)) = fails_before s line refusal still (rule_fails s line (refusal_number refusal) f)
-
-  pub settles_refused : (refusal : Refusal) → yielded ≡ Err refusal → (line : Line) → Yields s line yielded → Decides s line (Err refusal) s
-  settles_refused refusal e line y = refuses refusal line (subst (Yields s line) e y)
+  -- the first check that fails is named
+  pub claim_refused : (e : Refusal) → Yields s line (Err e) → ClaimRight s line (Err e) s
+  claim_refused e (inl f) = claim_right s line (Err e) s (inl f, refl)
+  claim_refused e (inr (still, f)) = claim_right s line (Err e) s (fails_before s line e still (rule_fails s line (refusal_number e) f))

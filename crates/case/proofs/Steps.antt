@@ -1,6 +1,6 @@
 -- Calls made one by one: where they lead, and their replies so far.
-use Rattle.std.proofs.Common.{◌≡◌, ℕ, ◌+◌, ◌<◌, List, [], ◌∷◌, ◌++◌, map, length, get_or, take, Ok, Err, Result, sym, refl, ap, ◌∙◌, subst}
-use Rattle.std.proofs.lemmas.List.{map_push, map_more}
+use Rattle.std.proofs.Common.{◌≡◌, ℕ, List, [], ◌∷◌, ◌++◌, map, Ok, Err, Result, sym, refl, ap, ◌∙◌, subst}
+use Rattle.std.proofs.lemmas.List.{map_push}
 use Rattle.calculus.specs.Meaning.{Meaning, Formed}
 use Rattle.laws.specs.Lines.{Line}
 use Rattle.laws.specs.Runs.{Call, claims, asks, Reply, verdict, run_from, run}
@@ -53,11 +53,11 @@ module _ (S : Store) (m : Meaning) (calls : List Call) (replies : List Reply) (s
   pub led_promise : Formed m → Promise S m calls replies s
   led_promise formed = keeps_promise S m formed calls s led.formula led.store led.after replies led.replied
 
--- the next of the calls in a list
+-- one more of the calls in a list
 pub led_next :
-    (S : Store) (m : Meaning) (calls : List Called) (i : ℕ) (d : Called) (replies : List Replied) (reply : Replied) (t : Standing) → i < length calls →
-    Led S m (map meant_call (take i calls) ++ (meant_call (get_or calls i d) ∷ [])) (map meant_reply replies ++ (meant_reply reply ∷ [])) t →
-    Led S m (map meant_call (take (i + 1) calls)) (map meant_reply (replies ++ (reply ∷ []))) t
-led_next S m calls i d replies reply t lt h =
-    subst (λ cs. Led S m cs (map meant_reply (replies ++ (reply ∷ []))) t) (sym (map_more meant_call calls i d lt))
-    (subst (λ rs. Led S m (map meant_call (take i calls) ++ (meant_call (get_or calls i d) ∷ [])) rs t) (sym (map_push meant_reply replies reply)) h)
+    (S : Store) (m : Meaning) (calls more : List Called) (c : Called) (replies : List Replied) (reply : Replied) (t : Standing) → more ≡ calls ++ (c ∷ []) →
+    Led S m (map meant_call calls ++ (meant_call c ∷ [])) (map meant_reply replies ++ (meant_reply reply ∷ [])) t →
+    Led S m (map meant_call more) (map meant_reply (replies ++ (reply ∷ []))) t
+led_next S m calls more c replies reply t e h =
+    subst (λ cs. Led S m cs (map meant_reply (replies ++ (reply ∷ []))) t) (sym (ap (map meant_call) e ∙ map_push meant_call calls c))
+    (subst (λ rs. Led S m (map meant_call calls ++ (meant_call c ∷ [])) rs t) (sym (map_push meant_reply replies reply)) h)

@@ -10,7 +10,7 @@ use Rattle.laws.specs.Verdicts.{StateRight}
 use Rattle.laws.proofs.Calls.{called_after, reached_right}
 use Rattle.laws.proofs.Deciding.{closed_is}
 use Rattle.laws.proofs.Sets.{in_append}
-use Rattle.case.specs.Answers.{verdict_number}
+use Rattle.case.specs.Answers.{is_refuted, verdict_number}
 use Rattle.case.specs.Claimed.{After}
 use Rattle.case.specs.Promise.{Says, VerdictRight}
 use Rattle.case.specs.Standing.{Standing}
@@ -23,6 +23,10 @@ run_right S m formed calls = (reached_right S m).right formed (run S m calls) (c
 -- a case is refuted exactly if the empty clause has been kept
 pub refuted_is : (calls : List Call) (s : Standing) → After calls s → (s.refuted ≡ true) ↔ Closed s.shelf.kept
 refuted_is calls s h = (λ e. (closed_is s.shelf.kept).0 (sym h.refuted ∙ e), λ c. h.refuted ∙ (closed_is s.shelf.kept).1 c)
+
+-- and so is its verdict
+pub says_closed : (s : Standing) (v : Verdict) → s.refuted ≡ closed s.shelf.kept → Says s v → (is_refuted v ≡ true) ↔ Closed s.shelf.kept
+says_closed s v e (b, k) = (λ h. (closed_is s.shelf.kept).0 (sym (b ∙ e) ∙ h), λ c. b ∙ (e ∙ (closed_is s.shelf.kept).1 c))
 
 -- and then its formula is false
 pub refuted_false : (calls : List Call) (s : Standing) → Formed s.formula → After calls s → s.refuted ≡ true → truth s.formula ≡ false

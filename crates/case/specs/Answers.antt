@@ -1,6 +1,6 @@
 -- The numbers of refusals and verdicts, and what calls and replies are in the calculus.
 use Rattle.std.specs.Prelude.{ℕ, Bool, true, false, Ok, Err, Result}
-use Rattle.laws.specs.Lines.{axiom_line, resolution, reduction, symmetry}
+use Rattle.laws.specs.Lines.{Line, axiom_line, resolution, reduction, symmetry}
 use Rattle.laws.specs.Runs as runs
 use Rattle.cards.specs.Meant.{meant}
 use Rattle.case.specs.declared.refusal.Refusal.{Refusal}
@@ -8,9 +8,11 @@ use Rattle.case.specs.declared.refusal.Refusal.TheVariants.{Closed, Absent, Taut
 use Rattle.case.specs.declared.verdict.Verdict.{Verdict}
 use Rattle.case.specs.declared.verdict.Verdict.TheVariants.{Refuted, Open}
 use Rattle.case.specs.declared.call.Call.{Call}
-use Rattle.case.specs.declared.call.Call.TheVariants.{Axiom, Resolution, Reduction as Reducing, Symmetry, Verdict as Asking}
+use Rattle.case.specs.declared.call.Call.TheVariants.{Claim as Claims, Verdict as Asks}
 use Rattle.case.specs.declared.call.Reply.{Reply}
-use Rattle.case.specs.declared.call.Reply.TheVariants.{Granted, Refused, Verdict as Said}
+use Rattle.case.specs.declared.call.Reply.TheVariants.{Claim as Answers, Verdict as Says}
+use Rattle.case.specs.declared.claim.Claim.{Claim}
+use Rattle.case.specs.declared.claim.Claim.TheVariants.{Axiom, Resolution, Reduction as Reducing, Symmetry}
 
 -- the number under which a refused claim is reported
 abbrev pub refusal_number : Refusal → ℕ
@@ -33,21 +35,24 @@ abbrev pub verdict_number : Verdict → ℕ
 verdict_number (Refuted k) = k
 verdict_number (Open k) = k
 
+-- the line that a claim is for
+abbrev pub line_of : Claim → Line
+line_of (Axiom j) = axiom_line j
+line_of (Resolution p q v) = resolution p q v
+line_of (Reducing p v) = reduction p v
+line_of (Symmetry p card) = symmetry p (meant card)
+
 -- the call of the calculus that a call is
 abbrev pub meant_call : Call → runs.Call
-meant_call (Axiom j) = runs.claims (axiom_line j)
-meant_call (Resolution p q v) = runs.claims (resolution p q v)
-meant_call (Reducing p v) = runs.claims (reduction p v)
-meant_call (Symmetry p card) = runs.claims (symmetry p (meant card))
-meant_call Asking = runs.asks
-
--- the reply of the calculus that a reply is
-abbrev pub meant_reply : Reply → runs.Reply
-meant_reply (Granted p) = runs.granted p
-meant_reply (Refused e) = runs.refusal (refusal_number e)
-meant_reply (Said v) = runs.verdict (is_refuted v) (verdict_number v)
+meant_call (Claims claim) = runs.claims (line_of claim)
+meant_call Asks = runs.asks
 
 -- the reply that a claim's answer is
 abbrev pub claim_reply : Result ℕ Refusal → runs.Reply
 claim_reply (Ok p) = runs.granted p
 claim_reply (Err e) = runs.refusal (refusal_number e)
+
+-- the reply of the calculus that a reply is
+abbrev pub meant_reply : Reply → runs.Reply
+meant_reply (Answers r) = claim_reply r
+meant_reply (Says v) = runs.verdict (is_refuted v) (verdict_number v)

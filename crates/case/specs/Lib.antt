@@ -1,4 +1,6 @@
 pub mod Standing
+pub mod Refusals
+pub mod Printed
 pub mod Answers
 pub mod Claimed
 pub mod Steps

@@ -1,22 +1,18 @@
--- What the steps of a call promise: the clause that a line's rule yields, the answer, the clause kept, the clause of an earlier line, and one
--- call of a list.
-use Rattle.std.specs.Prelude.{◌≡◌, ℕ, ◌<◌, ◌≤◌, false, List, [], ◌∷◌, length, take, set, Result, MatchResult, slice_index_or}
+-- What the steps of a claim promise: the clause that a line's rule yields, the clause kept, and the clause of an earlier line.
+use Rattle.std.specs.Prelude.{◌≡◌, ℕ, ◌<◌, ◌≤◌, false, List, [], ◌∷◌, length, Result, MatchResult}
 use Rattle.calculus.specs.Literals.{Tautological}
 use Rattle.calculus.specs.Meaning.{Variable}
 use Rattle.laws.specs.Checks.{Check, conditions, Hold, FailsWith}
-use Rattle.laws.specs.When.{checks_when}
 use Rattle.laws.specs.Clauses.{Resolvable}
 use Rattle.laws.specs.Derivations.{line_of}
 use Rattle.laws.specs.Lines.{Line, axiom_line, resolution, reduction, symmetry}
 use Rattle.laws.specs.Store.{Room}
 use Rattle.sets.specs.Members.{members}
-use Rattle.sets.specs.declared.set.LiteralSet.{LiteralSet}
-use Rattle.case.specs.Answers.{refusal_number, meant_call, meant_reply}
-use Rattle.case.specs.Claimed.{clause_by, CallRight}
+use Rattle.sets.specs.declared.clause_set.ClauseSet.{ClauseSet}
+use Rattle.shelf.specs.declared.clause.Clause.{Clause}
+use Rattle.case.specs.Answers.{refusal_number}
+use Rattle.case.specs.Claimed.{clause_by}
 use Rattle.case.specs.Standing.{Standing, with_line}
-use Rattle.case.specs.declared.call.Call.{Call}
-use Rattle.case.specs.declared.call.Call.TheVariants.{Verdict}
-use Rattle.case.specs.declared.call.Reply.{Reply}
 use Rattle.case.specs.declared.refusal.Refusal.{Refusal}
 use Rattle.case.specs.declared.refusal.Refusal.TheVariants.{Absent, Full}
 
@@ -33,17 +29,11 @@ rule_checks s (resolution p q v) =
 rule_checks s (reduction p v) = conditions s.formula s.shelf.kept (reduction p v)
 rule_checks s (symmetry p card) = conditions s.formula s.shelf.kept (symmetry p card)
 
--- the case is open and the rule's conditions hold, and the set has the clause of the rule; or the first of these that fails is named
-abbrev pub Yields : Standing → Line → Result LiteralSet Refusal → Type 0
+-- the case is open and the rule's conditions hold, and this is the clause of the rule; or the first of these that fails is named
+abbrev pub Yields : Standing → Line → Result ClauseSet Refusal → Type 0
 Yields s line r =
-    MatchResult r (λ set. Hold ((31, s.refuted ≡ false) ∷ rule_checks s line) × (members set.words ≡ clause_by s line) × (Tautological (members set.words) → ⊥))
+    MatchResult r (λ clause. Hold ((31, s.refuted ≡ false) ∷ rule_checks s line) × (members clause.literals.words ≡ clause_by s line))
     (λ e. FailsWith (refusal_number e) ((31, s.refuted ≡ false) ∷ rule_checks s line))
-
--- all checks hold, and the clause is kept as the next line; or some check fails, and nothing has changed
-abbrev pub Decides : Standing → Line → Result ℕ Refusal → Standing → Type 0
-Decides s line r t =
-    MatchResult r (λ p. Hold (checks_when (s.refuted ≡ false) s.shelf.store s.formula s.shelf.kept line) × (p ≡ length s.shelf.kept) × (t ≡ with_line s (clause_by s line)))
-    (λ e. FailsWith (refusal_number e) (checks_when (s.refuted ≡ false) s.shelf.store s.formula s.shelf.kept line) × (t ≡ s))
 
 -- C is kept as the next line where the shelf can keep it
 abbrev pub KeepsLine : Standing → List ℕ → Result ℕ Refusal → Standing → Type 0
@@ -51,10 +41,6 @@ KeepsLine s C r t =
     MatchResult r (λ p. Room s.shelf.store s.shelf.kept C × (p ≡ length s.shelf.kept) × (t ≡ with_line s C))
     (λ e. (Room s.shelf.store s.shelf.kept C → ⊥) × (e ≡ Full) × (t ≡ s))
 
--- the clause of line p stands in the front of the place; or there is no such line
-abbrev pub Fetched : List (List ℕ) → ℕ → Result ℕ Refusal → List ℕ → Type 0
-Fetched kept p r place = MatchResult r (λ k. (p < length kept) × (k ≤ length place) × (take k place ≡ line_of kept p)) (λ e. (length kept ≤ p) × (e ≡ Absent))
-
--- call i is made, and its reply stands in its place
-abbrev pub Makes : Standing → List Call → ℕ → List Reply → List Reply → Standing → Type 0
-Makes s calls i before after t = (reply : Reply) × CallRight s (meant_call (slice_index_or calls i Verdict)) (meant_reply reply) t × (after ≡ set before i reply)
+-- the clause of line p; or there is no such line
+abbrev pub Fetched : List (List ℕ) → ℕ → Result Clause Refusal → Type 0
+Fetched kept p r = MatchResult r (λ clause. (p < length kept) × (clause.codes.now ≡ line_of kept p)) (λ e. (length kept ≤ p) × (e ≡ Absent))

@@ -1,22 +1,18 @@
 // The calls on a case as values, and what they are answered.
+use super::claim::Claim;
 use super::refusal::Refusal;
 use super::verdict::Verdict;
-use cards::Card;
 
-// Clause j; lines p and q resolved upon v; line p reduced by v; the image of line p under a card; or the verdict.
-#[derive(Clone, Copy)]
+// A line is claimed, or the verdict is asked for.
+#[derive(Clone, Copy, Debug, PartialEq, Eq)]
 pub enum Call {
-    Axiom(usize),
-    Resolution(usize, usize, usize),
-    Reduction(usize, usize),
-    Symmetry(usize, Card),
+    Claim(Claim),
     Verdict,
 }
 
-// The number of the line that was granted, or why it was refused, or the verdict.
-#[derive(Clone, Copy)]
+// The number of the line that was granted or why it was refused, or the verdict.
+#[derive(Clone, Copy, Debug, PartialEq, Eq)]
 pub enum Reply {
-    Granted(usize),
-    Refused(Refusal),
+    Claim(Result<usize, Refusal>),
     Verdict(Verdict),
 }

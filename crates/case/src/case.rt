@@ -1,9 +1,11 @@
 // One formula, one shelf, and whether the empty clause has been kept.
 use formula::Formula;
 use shelf::Shelf;
+use std::marker::Model;
 
 mod answering;
 mod axioms;
+mod checking;
 mod fetching;
 mod keeping;
 mod opening;
@@ -17,4 +19,17 @@ pub struct Case<F: Formula, S: Shelf> {
     formula: F,
     shelf: S,
     refuted: bool,
+}
+
+// To a contract a case is where it stands, with the formula and the shelf that it gives back. It is refuted exactly if the empty clause is kept.
+impl<F: Formula, S: Shelf> Model for Case<F, S> {
+    ghost use Rattle.std.specs.Prelude.{◌≡◌};
+    ghost use Rattle.laws.specs.Claims.{closed};
+    ghost use Rattle.case.specs.Standing.{Seen};
+
+    ghost Value = { Seen F S };
+
+    ghost view = { λ c. record { standing = record { formula = F.meaning c.formula; refuted = c.refuted; shelf = S.meaning c.shelf }; formula = c.formula; shelf = c.shelf } };
+
+    ghost invariant = { λ c. c.refuted ≡ closed (S.meaning c.shelf).kept };
 }

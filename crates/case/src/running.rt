@@ -1,8 +1,5 @@
 // A case opened, and a list of calls made on it.
-ghost use Rattle.std.specs.Prelude.{◌<◌, length};
 ghost use Rattle.case.specs.Promise.{RunRight};
-ghost use Rattle.case.specs.Standing.{standing};
-ghost use Rattle.case.specs.Steps.{Makes};
 
 use super::call::{Call, Reply};
 use super::case::Case;
@@ -16,28 +13,12 @@ pub fn run<F: Formula, S: Shelf>(
     calls: &[Call],
     replies: &mut [Reply],
 ) -> Case<F, S>
-    ensures { RunRight (S.meaning shelf).store (F.meaning formula) calls.now replies.old replies.new (standing F.meaning S.meaning result) }
+    ensures { RunRight (S.meaning shelf).store (F.meaning formula) calls.now replies.old replies.new result.standing }
 {
     let mut case = Case::open(formula, shelf);
-    for i in 0..calls.len() {
-        if i >= replies.len() {
-            break;
-        }
-        make(&mut case, calls, i, replies);
+    // a reply is written by its place: of what an iterator lends to be written, a proof knows the length only
+    for (i, call) in calls.iter().enumerate().take(replies.len()) {
+        replies[i] = case.answer(*call);
     }
     case
-}
-
-// Makes call i, and puts the reply in its place.
-fn make<F: Formula, S: Shelf>(
-    case: &mut Case<F, S>,
-    calls: &[Call],
-    i: usize,
-    replies: &mut [Reply],
-)
-    requires call { i < length calls.now }
-    requires place { i < length replies.old }
-    ensures { Makes (standing F.meaning S.meaning case.old) calls.now i replies.old replies.new (standing F.meaning S.meaning case.new) }
-{
-    replies[i] = case.answer(calls[i]);
 }

@@ -1,4 +1,5 @@
 // Claims of clauses of the formula.
+use super::calls::axiom;
 use super::grounds::{ROOMY, all_hold};
 use super::replies::{ABSENT, CLOSED, FULL, TAUTOLOGY, line, open, refuted};
 use case::{Call, Reply};
@@ -11,14 +12,14 @@ const CROWDED: &str = "p cnf 3 3 e 1 0 a 2 0 e 3 0 3 -2 1 -2 3 0 1 2 -1 0 0";
 #[test]
 fn answered(rt: HostRuntime) -> Result<(), Fail> {
     let rows: &[(Call, Reply)] = &[
-        (Call::Axiom(0), line(0)),
-        (Call::Axiom(1), TAUTOLOGY),
-        (Call::Axiom(3), ABSENT),
-        (Call::Axiom(usize::MAX), ABSENT),
+        (axiom(0), line(0)),
+        (axiom(1), TAUTOLOGY),
+        (axiom(3), ABSENT),
+        (axiom(usize::MAX), ABSENT),
         // a clause may be claimed again
-        (Call::Axiom(0), line(1)),
+        (axiom(0), line(1)),
         (Call::Verdict, open(2)),
-        (Call::Axiom(2), line(2)),
+        (axiom(2), line(2)),
         (Call::Verdict, refuted(3)),
     ];
     all_hold(
@@ -36,22 +37,22 @@ fn answered(rt: HostRuntime) -> Result<(), Fail> {
 fn first_of_two(rt: HostRuntime) -> Result<(), Fail> {
     // room for one clause
     let rows: &[(Call, Reply)] = &[
-        (Call::Axiom(0), line(0)),
-        (Call::Axiom(3), ABSENT),
-        (Call::Axiom(1), TAUTOLOGY),
-        (Call::Axiom(0), FULL),
-        (Call::Axiom(2), FULL),
+        (axiom(0), line(0)),
+        (axiom(3), ABSENT),
+        (axiom(1), TAUTOLOGY),
+        (axiom(0), FULL),
+        (axiom(2), FULL),
         (Call::Verdict, open(1)),
     ];
     all_hold(&rt, rt.alloc(), CROWDED, (4, 16), rows, &[&[1, -2, 3]])?;
     // room for that and the empty clause
     let rows: &[(Call, Reply)] = &[
-        (Call::Axiom(0), line(0)),
-        (Call::Axiom(2), line(1)),
-        (Call::Axiom(3), CLOSED),
-        (Call::Axiom(1), CLOSED),
-        (Call::Axiom(0), CLOSED),
-        (Call::Axiom(2), CLOSED),
+        (axiom(0), line(0)),
+        (axiom(2), line(1)),
+        (axiom(3), CLOSED),
+        (axiom(1), CLOSED),
+        (axiom(0), CLOSED),
+        (axiom(2), CLOSED),
         (Call::Verdict, refuted(2)),
     ];
     all_hold(&rt, rt.alloc(), CROWDED, (5, 32), rows, &[&[1, -2, 3], &[]])

@@ -1,4 +1,5 @@
 // The example: a refutation of four lines, the same without room for it, and what is called once it is whole.
+use super::calls::{axiom, reduction, resolution, symmetry};
 use super::grounds::{PAIR, ROOMY, all_hold, card};
 use super::replies::{ABSENT, CLOSED, FULL, line, open, refuted};
 use case::{Call, Reply};
@@ -10,13 +11,13 @@ fn four_lines(rt: HostRuntime) -> Result<(), Fail> {
     let negating = card(&[(1, 3), (2, 5)])?;
     let rows: &[(Call, Reply)] = &[
         (Call::Verdict, open(0)),
-        (Call::Axiom(0), line(0)),
+        (axiom(0), line(0)),
         (Call::Verdict, open(1)),
-        (Call::Reduction(0, 2), line(1)),
+        (reduction(0, 2), line(1)),
         (Call::Verdict, open(2)),
-        (Call::Symmetry(1, negating), line(2)),
+        (symmetry(1, negating), line(2)),
         (Call::Verdict, open(3)),
-        (Call::Resolution(1, 2, 1), line(3)),
+        (resolution(1, 2, 1), line(3)),
         (Call::Verdict, refuted(4)),
     ];
     all_hold(
@@ -34,10 +35,10 @@ fn four_lines(rt: HostRuntime) -> Result<(), Fail> {
 fn two_lines(rt: HostRuntime) -> Result<(), Fail> {
     let negating = card(&[(1, 3), (2, 5)])?;
     let rows: &[(Call, Reply)] = &[
-        (Call::Axiom(0), line(0)),
-        (Call::Reduction(0, 2), line(1)),
-        (Call::Symmetry(1, negating), FULL),
-        (Call::Resolution(1, 2, 1), ABSENT),
+        (axiom(0), line(0)),
+        (reduction(0, 2), line(1)),
+        (symmetry(1, negating), FULL),
+        (resolution(1, 2, 1), ABSENT),
         (Call::Verdict, open(2)),
     ];
     all_hold(&rt, rt.alloc(), PAIR, (5, 47), rows, &[&[1, 2], &[1]])
@@ -51,29 +52,29 @@ fn closed(rt: HostRuntime) -> Result<(), Fail> {
     let exchanging = card(&[(1, 4), (2, 2)])?;
     let halfway = card(&[(1, 3)])?;
     let rows: &[(Call, Reply)] = &[
-        (Call::Axiom(0), line(0)),
-        (Call::Reduction(0, 2), line(1)),
-        (Call::Symmetry(1, negating), line(2)),
-        (Call::Resolution(1, 2, 1), line(3)),
+        (axiom(0), line(0)),
+        (reduction(0, 2), line(1)),
+        (symmetry(1, negating), line(2)),
+        (resolution(1, 2, 1), line(3)),
         (Call::Verdict, refuted(4)),
         // what would be granted if there were room
-        (Call::Axiom(0), CLOSED),
-        (Call::Reduction(0, 2), CLOSED),
-        (Call::Symmetry(1, negating), CLOSED),
-        (Call::Resolution(1, 2, 1), CLOSED),
+        (axiom(0), CLOSED),
+        (reduction(0, 2), CLOSED),
+        (symmetry(1, negating), CLOSED),
+        (resolution(1, 2, 1), CLOSED),
         // no such clause, line or variable
-        (Call::Axiom(2), CLOSED),
-        (Call::Resolution(4, 0, 1), CLOSED),
-        (Call::Resolution(0, 4, 1), CLOSED),
-        (Call::Resolution(1, 2, 0), CLOSED),
-        (Call::Reduction(4, 2), CLOSED),
-        (Call::Reduction(0, 3), CLOSED),
-        (Call::Symmetry(4, negating), CLOSED),
+        (axiom(2), CLOSED),
+        (resolution(4, 0, 1), CLOSED),
+        (resolution(0, 4, 1), CLOSED),
+        (resolution(1, 2, 0), CLOSED),
+        (reduction(4, 2), CLOSED),
+        (reduction(0, 3), CLOSED),
+        (symmetry(4, negating), CLOSED),
         // a pivot, a reduction, a level and a symmetry that do not fit
-        (Call::Resolution(2, 1, 1), CLOSED),
-        (Call::Reduction(0, 1), CLOSED),
-        (Call::Symmetry(0, exchanging), CLOSED),
-        (Call::Symmetry(0, halfway), CLOSED),
+        (resolution(2, 1, 1), CLOSED),
+        (reduction(0, 1), CLOSED),
+        (symmetry(0, exchanging), CLOSED),
+        (symmetry(0, halfway), CLOSED),
         (Call::Verdict, refuted(4)),
         (Call::Verdict, refuted(4)),
     ];

@@ -22,18 +22,12 @@ pub const ROOMY: (usize, usize) = (1000, 1600);
 
 // The card of some pairs, a variable and the code of its image.
 pub(crate) fn card(pairs: &[(u16, u16)]) -> Result<Card, Fail> {
-    match Card::from_pairs(pairs) {
-        Ok(card) => Ok(card),
-        Err(_) => Err(Fail::new("no card")),
-    }
+    Card::from_pairs(pairs).map_err(|_| Fail::new("no card"))
 }
 
 // A text read into cells.
 pub(crate) fn read(text: &str, literals: &mut [u16], ends: &mut [u16]) -> Result<Outline, Fail> {
-    match text::read(text.as_bytes(), literals, ends) {
-        Ok(outline) => Ok(outline),
-        Err(_) => Err(Fail::new("refused")),
-    }
+    text::read(text.as_bytes(), literals, ends).map_err(|_| Fail::new("refused"))
 }
 
 // The rows hold for the formula of a text, as a table and as an image, on a cell shelf and on a row shelf, of so many cells and words.
@@ -59,7 +53,7 @@ pub(crate) fn all_hold(
     )?;
     // each literal is negated here, and again by the card
     for code in literals.iter_mut() {
-        *code = if *code % 2 == 0 { *code + 1 } else { *code - 1 };
+        *code ^= 1;
     }
     let negated = Table::over(outline, &literals, &ends);
     on_image(rt, heap, &negated, room, rows, clauses)
@@ -75,18 +69,16 @@ fn on_image<F: Formula>(
     clauses: &[&[i32]],
 ) -> Result<(), Fail> {
     let pairs = NEGATED.get(0..formula.variable_count()).ok_or("many")?;
-    match Image::new(formula, card(pairs)?) {
-        Ok(image) => on_shelves(
-            rt,
-            heap,
-            ("an image on cells", "an image on rows"),
-            &image,
-            room,
-            rows,
-            clauses,
-        ),
-        Err(_) => Err(Fail::new("no image")),
-    }
+    let image = Image::new(formula, card(pairs)?).map_err(|_| Fail::new("no image"))?;
+    on_shelves(
+        rt,
+        heap,
+        ("an image on cells", "an image on rows"),
+        &image,
+        room,
+        rows,
+        clauses,
+    )
 }
 
 // The rows hold on both shelves.

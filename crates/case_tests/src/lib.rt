@@ -4,6 +4,8 @@
 #[cfg(test)]
 mod axioms;
 #[cfg(test)]
+mod calls;
+#[cfg(test)]
 mod example;
 #[cfg(test)]
 mod grounds;
@@ -11,6 +13,8 @@ mod grounds;
 mod opening;
 #[cfg(test)]
 mod reductions;
+#[cfg(test)]
+mod refusals;
 #[cfg(test)]
 mod replies;
 #[cfg(test)]

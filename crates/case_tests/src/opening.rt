@@ -1,6 +1,7 @@
 // A case opened on a shelf that held clauses, closed and opened again; and as many lines as there can be.
+use super::calls::axiom;
 use super::grounds::read;
-use super::replies::{FULL, line, open, refuted, said};
+use super::replies::{FULL, line, open, refuted};
 use super::shelves::keeps;
 use case::{Call, Case};
 use cells::CellShelf;
@@ -26,46 +27,16 @@ fn reopens<F: Formula + Drop, S: Shelf + Drop>(
     keeps(rt, ground, &shelf, &[&[1, -2], &[]])?;
     // a case that is refuted
     let mut case = Case::open(formula, shelf);
-    assert_eq!(rt;
-        said(case.answer(Call::Verdict)),
-        said(open(0)),
-        "{}",
-        ground
-    );
-    assert_eq!(rt;
-        said(case.answer(Call::Axiom(1))),
-        said(line(0)),
-        "{}",
-        ground
-    );
-    assert_eq!(rt;
-        said(case.answer(Call::Verdict)),
-        said(refuted(1)),
-        "{}",
-        ground
-    );
+    assert_eq!(rt; case.answer(Call::Verdict), open(0), "{}", ground);
+    assert_eq!(rt; case.answer(axiom(1)), line(0), "{}", ground);
+    assert_eq!(rt; case.answer(Call::Verdict), refuted(1), "{}", ground);
     let (formula, shelf) = case.close();
     keeps(rt, ground, &shelf, &[&[]])?;
     // another, on what it gave back
     let mut case = Case::open(formula, shelf);
-    assert_eq!(rt;
-        said(case.answer(Call::Verdict)),
-        said(open(0)),
-        "{}",
-        ground
-    );
-    assert_eq!(rt;
-        said(case.answer(Call::Axiom(0))),
-        said(line(0)),
-        "{}",
-        ground
-    );
-    assert_eq!(rt;
-        said(case.answer(Call::Verdict)),
-        said(open(1)),
-        "{}",
-        ground
-    );
+    assert_eq!(rt; case.answer(Call::Verdict), open(0), "{}", ground);
+    assert_eq!(rt; case.answer(axiom(0)), line(0), "{}", ground);
+    assert_eq!(rt; case.answer(Call::Verdict), open(1), "{}", ground);
     let (formula, shelf) = case.close();
     keeps(rt, ground, &shelf, &[&[-1]])?;
     assert_eq!(rt;
@@ -93,20 +64,10 @@ fn fills<F: Formula + Drop, S: Shelf + Drop>(
 ) -> Result<(), Fail> {
     let mut case = Case::open(formula, shelf);
     for i in 0..8192 {
-        assert_eq!(rt;
-            said(case.answer(Call::Axiom(0))),
-            said(line(i)),
-            "{}",
-            ground
-        );
+        assert_eq!(rt; case.answer(axiom(0)), line(i), "{}", ground);
     }
-    assert_eq!(rt; said(case.answer(Call::Axiom(0))), said(FULL), "{}", ground);
-    assert_eq!(rt;
-        said(case.answer(Call::Verdict)),
-        said(open(8192)),
-        "{}",
-        ground
-    );
+    assert_eq!(rt; case.answer(axiom(0)), FULL, "{}", ground);
+    assert_eq!(rt; case.answer(Call::Verdict), open(8192), "{}", ground);
     Ok(())
 }
 

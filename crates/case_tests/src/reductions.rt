@@ -1,4 +1,5 @@
 // Claims of reductions.
+use super::calls::{axiom, reduction};
 use super::grounds::{ROOMY, all_hold};
 use super::replies::{ABSENT, FULL, REDUCTION, line, open, refuted};
 use case::{Call, Reply};
@@ -17,19 +18,19 @@ const APART: &str = "p cnf 3 1 a 1 0 e 2 0 a 3 0 1 -3 0";
 fn answered(rt: HostRuntime) -> Result<(), Fail> {
     let rows: &[(Call, Reply)] = &[
         // no such line, no such variable
-        (Call::Reduction(0, 2), ABSENT),
-        (Call::Axiom(0), line(0)),
-        (Call::Axiom(1), line(1)),
-        (Call::Reduction(2, 2), ABSENT),
-        (Call::Reduction(usize::MAX, 2), ABSENT),
-        (Call::Reduction(0, 0), ABSENT),
-        (Call::Reduction(0, 4), ABSENT),
-        (Call::Reduction(0, usize::MAX), ABSENT),
+        (reduction(0, 2), ABSENT),
+        (axiom(0), line(0)),
+        (axiom(1), line(1)),
+        (reduction(2, 2), ABSENT),
+        (reduction(usize::MAX, 2), ABSENT),
+        (reduction(0, 0), ABSENT),
+        (reduction(0, 4), ABSENT),
+        (reduction(0, usize::MAX), ABSENT),
         // an existential variable; one in a clause where an existential literal lies deeper; one that is not in the clause
-        (Call::Reduction(0, 1), REDUCTION),
-        (Call::Reduction(1, 2), REDUCTION),
-        (Call::Reduction(0, 2), line(2)),
-        (Call::Reduction(2, 2), REDUCTION),
+        (reduction(0, 1), REDUCTION),
+        (reduction(1, 2), REDUCTION),
+        (reduction(0, 2), line(2)),
+        (reduction(2, 2), REDUCTION),
         (Call::Verdict, open(3)),
     ];
     all_hold(
@@ -41,18 +42,18 @@ fn answered(rt: HostRuntime) -> Result<(), Fail> {
         &[&[1, 2], &[-2, 3], &[1]],
     )?;
     let rows: &[(Call, Reply)] = &[
-        (Call::Axiom(0), line(0)),
-        (Call::Reduction(0, 1), REDUCTION),
-        (Call::Reduction(0, 2), REDUCTION),
+        (axiom(0), line(0)),
+        (reduction(0, 1), REDUCTION),
+        (reduction(0, 2), REDUCTION),
         (Call::Verdict, open(1)),
     ];
     all_hold(&rt, rt.alloc(), TURNED, ROOMY, rows, &[&[1, 2]])?;
     // a universal literal may lie deeper
     let rows: &[(Call, Reply)] = &[
-        (Call::Axiom(0), line(0)),
-        (Call::Reduction(0, 1), line(1)),
+        (axiom(0), line(0)),
+        (reduction(0, 1), line(1)),
         (Call::Verdict, open(2)),
-        (Call::Reduction(1, 3), line(2)),
+        (reduction(1, 3), line(2)),
         (Call::Verdict, refuted(3)),
     ];
     all_hold(&rt, rt.alloc(), APART, ROOMY, rows, &[&[1, -3], &[-3], &[]])
@@ -62,18 +63,18 @@ fn answered(rt: HostRuntime) -> Result<(), Fail> {
 #[test]
 fn first_of_two(rt: HostRuntime) -> Result<(), Fail> {
     let rows: &[(Call, Reply)] = &[
-        (Call::Axiom(0), line(0)),
-        (Call::Axiom(1), line(1)),
+        (axiom(0), line(0)),
+        (axiom(1), line(1)),
         // a line absent, and an existential variable
-        (Call::Reduction(2, 1), ABSENT),
+        (reduction(2, 1), ABSENT),
         // no variable, so none that is universal
-        (Call::Reduction(0, 0), ABSENT),
-        (Call::Reduction(0, 4), ABSENT),
+        (reduction(0, 0), ABSENT),
+        (reduction(0, 4), ABSENT),
         // no room for what cannot be reduced, or can
-        (Call::Reduction(0, 1), REDUCTION),
-        (Call::Reduction(0, 3), REDUCTION),
-        (Call::Reduction(1, 2), REDUCTION),
-        (Call::Reduction(0, 2), FULL),
+        (reduction(0, 1), REDUCTION),
+        (reduction(0, 3), REDUCTION),
+        (reduction(1, 2), REDUCTION),
+        (reduction(0, 2), FULL),
         (Call::Verdict, open(2)),
     ];
     all_hold(&rt, rt.alloc(), DEEP, (6, 32), rows, &[&[1, 2], &[-2, 3]])

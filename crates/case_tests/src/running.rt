@@ -1,4 +1,5 @@
 // Runs with fewer places than calls, as many, and more.
+use super::calls::{axiom, reduction, resolution, symmetry};
 use super::grounds::{PAIR, card, read};
 use super::replies::{line, refuted};
 use super::tables::runs;
@@ -12,10 +13,10 @@ use text::Table;
 fn places(rt: HostRuntime) -> Result<(), Fail> {
     let negating = card(&[(1, 3), (2, 5)])?;
     let rows: &[(Call, Reply)] = &[
-        (Call::Axiom(0), line(0)),
-        (Call::Reduction(0, 2), line(1)),
-        (Call::Symmetry(1, negating), line(2)),
-        (Call::Resolution(1, 2, 1), line(3)),
+        (axiom(0), line(0)),
+        (reduction(0, 2), line(1)),
+        (symmetry(1, negating), line(2)),
+        (resolution(1, 2, 1), line(3)),
         (Call::Verdict, refuted(4)),
     ];
     let lengths: &[(usize, &[&[i32]])] = &[

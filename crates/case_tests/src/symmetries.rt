@@ -1,4 +1,5 @@
 // Claims of images of earlier lines.
+use super::calls::{axiom, symmetry};
 use super::grounds::{PAIR, ROOMY, all_hold, card};
 use super::replies::{ABSENT, ASYMMETRY, FULL, LEVEL, line, open};
 use case::{Call, Reply};
@@ -17,18 +18,18 @@ fn answered(rt: HostRuntime) -> Result<(), Fail> {
     let halfway = card(&[(1, 3)])?;
     let rows: &[(Call, Reply)] = &[
         // no such line
-        (Call::Symmetry(0, negating), ABSENT),
-        (Call::Axiom(0), line(0)),
-        (Call::Symmetry(1, negating), ABSENT),
-        (Call::Symmetry(usize::MAX, negating), ABSENT),
+        (symmetry(0, negating), ABSENT),
+        (axiom(0), line(0)),
+        (symmetry(1, negating), ABSENT),
+        (symmetry(usize::MAX, negating), ABSENT),
         // clauses stay clauses, but levels change, or what is no variable is moved
-        (Call::Symmetry(0, exchanging), LEVEL),
-        (Call::Symmetry(0, beyond), LEVEL),
+        (symmetry(0, exchanging), LEVEL),
+        (symmetry(0, beyond), LEVEL),
         // no clause is {-1, 2}
-        (Call::Symmetry(0, halfway), ASYMMETRY),
-        (Call::Symmetry(0, negating), line(1)),
-        (Call::Symmetry(1, resting), line(2)),
-        (Call::Symmetry(2, negating), line(3)),
+        (symmetry(0, halfway), ASYMMETRY),
+        (symmetry(0, negating), line(1)),
+        (symmetry(1, resting), line(2)),
+        (symmetry(2, negating), line(3)),
         (Call::Verdict, open(4)),
     ];
     let clauses: &[&[i32]] = &[&[1, 2], &[-1, -2], &[-1, -2], &[1, 2]];
@@ -36,10 +37,10 @@ fn answered(rt: HostRuntime) -> Result<(), Fail> {
     // literals are kept in ascending order, wherever they come from
     let turning = card(&[(1, 4), (2, 6), (3, 2)])?;
     let rows: &[(Call, Reply)] = &[
-        (Call::Axiom(0), line(0)),
-        (Call::Symmetry(0, turning), line(1)),
-        (Call::Symmetry(1, turning), line(2)),
-        (Call::Symmetry(2, turning), line(3)),
+        (axiom(0), line(0)),
+        (symmetry(0, turning), line(1)),
+        (symmetry(1, turning), line(2)),
+        (symmetry(2, turning), line(3)),
         (Call::Verdict, open(4)),
     ];
     let clauses: &[&[i32]] = &[&[1, -2], &[2, -3], &[-1, 3], &[1, -2]];
@@ -56,16 +57,16 @@ fn first_of_two(rt: HostRuntime) -> Result<(), Fail> {
     let halfway = card(&[(1, 3)])?;
     let rows: &[(Call, Reply)] = &[
         // a line absent, and a level or a clause changed
-        (Call::Symmetry(0, exchanging), ABSENT),
-        (Call::Symmetry(0, halfway), ABSENT),
-        (Call::Axiom(0), line(0)),
-        (Call::Symmetry(1, crossing), ABSENT),
+        (symmetry(0, exchanging), ABSENT),
+        (symmetry(0, halfway), ABSENT),
+        (axiom(0), line(0)),
+        (symmetry(1, crossing), ABSENT),
         // a level changed, and a clause taken to none
-        (Call::Symmetry(0, crossing), LEVEL),
+        (symmetry(0, crossing), LEVEL),
         // no room for the image under what is no symmetry, or is one
-        (Call::Symmetry(0, exchanging), LEVEL),
-        (Call::Symmetry(0, halfway), ASYMMETRY),
-        (Call::Symmetry(0, negating), FULL),
+        (symmetry(0, exchanging), LEVEL),
+        (symmetry(0, halfway), ASYMMETRY),
+        (symmetry(0, negating), FULL),
         (Call::Verdict, open(1)),
     ];
     all_hold(&rt, rt.alloc(), PAIR, (3, 16), rows, &[&[1, 2]])

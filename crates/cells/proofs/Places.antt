@@ -1,11 +1,9 @@
 -- Where a line lies: at its start are its length and then its codes.
-use Rattle.std.proofs.Common.{◌≡◌, ℕ, suc, ◌+◌, ◌<◌, ◌≤◌, List, [], ◌∷◌, ◌++◌, length, get_or, take, drop, sym, refl, ap, ◌∙◌, append_assoc, arith, length-append, length-drop, take-append-drop, drop-cons, drop-drop}
-use Rattle.std.proofs.lemmas.List.{take_at, drop_at, get_or-drop}
-use Rattle.shelf.specs.Proper.{proper_out}
-use Rattle.cells.specs.Layout.{flat, parse, start}
+use Rattle.std.proofs.Common.{◌≡◌, ℕ, suc, Bor, Option, None, Some, MatchOption, option_copied, subst, ◌+◌, ◌<◌, ◌≤◌, List, [], ◌∷◌, ◌++◌, length, get_or, take, drop, sym, refl, ap, ◌∙◌, append_assoc, arith, length-drop, length-take, take-append-drop, drop-cons, drop-drop}
+use Rattle.std.proofs.lemmas.List.{take_at, drop_at, get_or-take, get_or-drop, drop-take}
+use Rattle.cells.specs.Layout.{flat, parse, start, Lies}
 use Rattle.cells.specs.declared.cell_shelf.CellShelf.{CellShelf}
 use Rattle.cells.proofs.Lines.{flat_append}
-use Rattle.cells.proofs.Short.{proper_short}
 
 -- from the start of line p on
 from_start : (Cs : List (List ℕ)) (more : List ℕ) (p : ℕ) → p < length Cs → drop (start Cs p) (flat Cs ++ more) ≡ length (get_or Cs p []) ∷ (get_or Cs p [] ++ (flat (drop (suc p) Cs) ++ more))
@@ -19,33 +17,47 @@ from_start Cs more p h =
     ∙ ap (λ z. length (get_or Cs p []) ∷ z) (append_assoc (get_or Cs p []) (flat (drop (suc p) Cs)) more)
 
 module _ (s : CellShelf) (p : ℕ) (there : p < s.count) where
-  abbrev cells : List ℕ
-  cells = s.cells.now
-
   abbrev lines : List (List ℕ)
-  lines = parse s.count cells
+  lines = parse s.count s.cells.now
 
   abbrev C : List ℕ
   C = get_or lines p []
 
-  abbrev rest : List ℕ
-  rest = flat (drop (suc p) lines) ++ drop s.used cells
+  abbrev past : List ℕ
+  past = drop s.used s.cells.now
 
-  found : drop (get_or s.starts p 0) cells ≡ length C ∷ (C ++ rest)
-  found =
-      let whole : cells ≡ flat lines ++ drop s.used cells = sym (take-append-drop s.used cells) ∙ ap (λ z. z ++ drop s.used cells) (sym s.laid) in
-      ap (λ k. drop k cells) (s.indexed p there) ∙ ap (drop (start lines p)) whole ∙ from_start lines (drop s.used cells) p (omega (arith, s.counted))
+  -- a line that is kept lies where the index says
+  pub kept_lies : Lies s.cells.now (get_or s.starts p 0) C
+  kept_lies =
+      let whole : s.cells.now ≡ flat lines ++ past = sym (take-append-drop s.used s.cells.now) ∙ ap (λ z. z ++ past) (sym s.laid) in
+      ap (λ k. take (1 + length C) (drop k s.cells.now)) (s.indexed p there)
+      ∙ ap (λ z. take (1 + length C) (drop (start lines p) z)) whole
+      ∙ ap (take (1 + length C)) (from_start lines past p (omega (arith, s.counted)))
+      ∙ take_at (length C ∷ C) _ (1 + length C) (omega arith)
 
-  pub ends : get_or s.starts p 0 + (1 + length C) ≤ length cells
-  ends = omega (arith, ap length found, length-append C rest, length-drop (get_or s.starts p 0) cells)
+module _ (cells : List ℕ) (at : ℕ) (C : List ℕ) (lies : Lies cells at C) where
+  -- it ends within the cells
+  pub ends : at + (1 + length C) ≤ length cells
+  ends = omega (arith, ap length lies, length-take (1 + length C) (drop at cells), length-drop at cells)
 
-  pub size : get_or cells (get_or s.starts p 0) 0 ≡ length C
+  -- its length stands first
+  pub size : get_or cells at 0 ≡ length C
   size =
-      let on : get_or s.starts p 0 ≡ get_or s.starts p 0 + 0 = omega arith in
-      ap (λ k. get_or cells k 0) on ∙ sym (get_or-drop (get_or s.starts p 0) cells 0 0) ∙ ap (λ z. get_or z 0 0) found
+      let on : at ≡ at + 0 = omega arith in
+      ap (λ k. get_or cells k 0) on ∙ sym (get_or-drop at cells 0 0) ∙ sym (get_or-take (1 + length C) (drop at cells) 0 0 (omega arith)) ∙ ap (λ z. get_or z 0 0) lies
 
-  pub codes : take (length C) (drop (get_or s.starts p 0 + 1) cells) ≡ C
-  codes = ap (take (length C)) (sym (drop-drop 1 (get_or s.starts p 0) cells) ∙ ap (drop 1) found) ∙ take_at C rest (length C) refl
+  -- and then its codes
+  pub codes : take (length C) (drop (at + 1) cells) ≡ C
+  codes = ap (take (length C)) (sym (drop-drop 1 at cells)) ∙ sym (drop-take 1 (length C) (drop at cells)) ∙ ap (drop 1) lies
 
-  pub short : length C ≤ 512
-  short = proper_short (proper_out (s.proper p there))
+-- the part of the index that is in use tells where each line lies that is kept
+pub start_found :
+    (s : CellShelf) (p : ℕ) (o : Option (Bor ℕ)) →
+    MatchOption o (length (take s.count s.starts) ≤ p) (λ x. (p < length (take s.count s.starts)) × ((d : ℕ) → x.now ≡ get_or (take s.count s.starts) p d)) →
+    MatchOption (option_copied o) (length (parse s.count s.cells.now) ≤ p)
+    (λ at. (p < length (parse s.count s.cells.now)) × Lies s.cells.now at (get_or (parse s.count s.cells.now) p []))
+start_found s p None none = omega (arith, none, length-take s.count s.starts, s.long, s.few, s.counted)
+start_found s p (Some x) (lt, read) =
+    let there : p < s.count = omega (arith, lt, length-take s.count s.starts) in
+    let here : x.now ≡ get_or s.starts p 0 = read 0 ∙ get_or-take s.count s.starts p 0 there in
+    (omega (arith, there, s.counted), subst (λ at. Lies s.cells.now at (get_or (parse s.count s.cells.now) p [])) (sym here) (kept_lies s p there))

@@ -1,4 +1,3 @@
 pub mod Layout
 pub mod Meant
 pub mod Bounds
-pub mod Changes

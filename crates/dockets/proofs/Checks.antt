@@ -1,9 +1,7 @@
--- Lists of checks: all hold or one is the first that fails, and what holds of several pairs holds of each.
+-- Lists of checks: all hold or one is the first that fails; one list behind another, and a list for each number.
 use Rattle.std.proofs.Common.{◌≡◌, ℕ, zero, suc, ◌+◌, ◌<◌, ◌≤◌, ◌⊎◌, List, [], ◌∷◌, ◌++◌, sym, refl, ◌∙◌, subst, inl, inr, ⊎_elim, arith}
 use Rattle.std.proofs.lemmas.Bool.{cases_eq}
-use Rattle.calculus.specs.Literals.{var}
-use Rattle.cards.specs.Pairs.{Named, image_at}
-use Rattle.dockets.specs.Reading.{Check, Hold, FailsAt, pairs_at, pair_checks, pairs_checks, naming_checks}
+use Rattle.dockets.specs.Reading.{Check, Hold, FailsAt, each}
 use Rattle.dockets.specs.declared.fault.LineFault.{LineFault}
 
 -- each check holds or does not
@@ -23,6 +21,15 @@ pub hold_parts : (some more : List Check) → Hold (some ++ more) → Hold some 
 hold_parts [] more h = (tt, h)
 hold_parts (check ∷ some) more (here, h) = let (a, b) = hold_parts some more h in ((here, a), b)
 
+pub fails_first : (e : LineFault) (some more : List Check) → FailsAt e some → FailsAt e (some ++ more)
+fails_first e [] more f = absurd f
+fails_first e (check ∷ some) more (inl f) = inl f
+fails_first e (check ∷ some) more (inr (here, f)) = inr (here, fails_first e some more f)
+
+pub fails_then : (e : LineFault) (some more : List Check) → Hold some → FailsAt e more → FailsAt e (some ++ more)
+fails_then e [] more h f = f
+fails_then e (check ∷ some) more (here, h) f = inr (here, fails_then e some more h f)
+
 pub some_outcome : (checks : List Check) → Decided checks → Hold checks ⊎ ((fault : LineFault) × FailsAt fault checks)
 some_outcome [] d = inl tt
 some_outcome ((rule, byte, P) ∷ checks) (inr not_so, d) = inr (record { rule = rule; byte = byte }, inl (refl, refl, not_so))
@@ -41,28 +48,33 @@ one_fault (check ∷ checks) fault other (inl (a, b, not_so)) (inr (so, g)) = ab
 one_fault (check ∷ checks) fault other (inr (so, f)) (inl (c, d, nor)) = absurd (nor so)
 one_fault (check ∷ checks) fault other (inr (so, f)) (inr (too, g)) = one_fault checks fault other f g
 
--- the checks of several pairs are those of each
-module _ (docket : List ℕ) (place : ℕ) where
-  pub pairs_hold : (k n : ℕ) → ((j : ℕ) → k ≤ j → j < k + n → Hold (pair_checks docket place j)) → Hold (pairs_checks docket place k n)
-  pairs_hold k zero each = tt
-  pairs_hold k (suc n) each =
-      hold_append (pair_checks docket place k) (pairs_checks docket place (suc k) n) (each k (omega arith) (omega arith))
-      (pairs_hold (suc k) n (λ j h l. each j (omega arith) (omega arith)))
+module _ (checks : ℕ → List Check) where
+  pub each_decided : ((k : ℕ) → Decided (checks k)) → (k n : ℕ) → Decided (each checks k n)
+  each_decided d k zero = tt
+  each_decided d k (suc n) = decided_append (checks k) (each checks (suc k) n) (d k) (each_decided d (suc k) n)
 
-  pub pairs_held : (k n : ℕ) → Hold (pairs_checks docket place k n) → (j : ℕ) → k ≤ j → j < k + n → Hold (pair_checks docket place j)
-  pairs_held k zero held j h l = absurd (omega arith)
-  pairs_held k (suc n) held j h l =
-      let (here, more) = hold_parts (pair_checks docket place k) (pairs_checks docket place (suc k) n) held in
-      ⊎_elim (λ e. subst (λ i. Hold (pair_checks docket place i)) (sym e) here) (λ e. pairs_held (suc k) n more j (omega arith) (omega arith)) (cases_eq j k)
+  hold_from : (k n : ℕ) → ((j : ℕ) → j < k + n → Hold (checks j)) → Hold (each checks k n)
+  hold_from k zero hold = tt
+  hold_from k (suc n) hold = hold_append (checks k) (each checks (suc k) n) (hold k (omega arith)) (hold_from (suc k) n (λ j h. hold j (omega arith)))
 
-  pub naming_holds : (k n : ℕ) → ((j : ℕ) → k ≤ j → j < k + n → Named (pairs_at docket place) (var (image_at (pairs_at docket place) j)))
-      → Hold (naming_checks docket place k n)
-  naming_holds k zero each = tt
-  naming_holds k (suc n) each = (each k (omega arith) (omega arith), naming_holds (suc k) n (λ j h l. each j (omega arith) (omega arith)))
+  pub each_holds : (n : ℕ) → ((j : ℕ) → j < n → Hold (checks j)) → Hold (each checks 0 n)
+  each_holds n hold = hold_from 0 n (λ j h. hold j (omega arith))
 
-  pub naming_held : (k n : ℕ) → Hold (naming_checks docket place k n) → (j : ℕ) → k ≤ j → j < k + n
-      → Named (pairs_at docket place) (var (image_at (pairs_at docket place) j))
-  naming_held k zero held j h l = absurd (omega arith)
-  naming_held k (suc n) (here, more) j h l =
-      ⊎_elim (λ e. subst (λ i. Named (pairs_at docket place) (var (image_at (pairs_at docket place) i))) (sym e) here)
-      (λ e. naming_held (suc k) n more j (omega arith) (omega arith)) (cases_eq j k)
+  held_from : (k n : ℕ) → Hold (each checks k n) → (j : ℕ) → k ≤ j → j < k + n → Hold (checks j)
+  held_from k zero held j h l = absurd (omega arith)
+  held_from k (suc n) held j h l =
+      let (here, more) = hold_parts (checks k) (each checks (suc k) n) held in
+      ⊎_elim (λ e. subst (λ i. Hold (checks i)) (sym e) here) (λ e. held_from (suc k) n more j (omega arith) (omega arith)) (cases_eq j k)
+
+  pub each_held : (n : ℕ) → Hold (each checks 0 n) → (j : ℕ) → j < n → Hold (checks j)
+  each_held n held j l = held_from 0 n held j (omega arith) (omega arith)
+
+  module _ (e : LineFault) (j : ℕ) (hold : (i : ℕ) → i < j → Hold (checks i)) (f : FailsAt e (checks j)) where
+    fails_from : (k n : ℕ) → k ≤ j → j < k + n → FailsAt e (each checks k n)
+    fails_from k zero a b = absurd (omega arith)
+    fails_from k (suc n) a b =
+        ⊎_elim (λ i. fails_first e (checks k) (each checks (suc k) n) (subst (λ m. FailsAt e (checks m)) i f))
+        (λ ne. fails_then e (checks k) (each checks (suc k) n) (hold k (omega arith)) (fails_from (suc k) n (omega arith) (omega arith))) (cases_eq j k)
+
+    pub one_fails : (n : ℕ) → j < n → FailsAt e (each checks 0 n)
+    one_fails n h = fails_from 0 n (omega arith) (omega arith)

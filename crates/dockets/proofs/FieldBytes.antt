@@ -1,7 +1,7 @@
 -- Fields and pairs among bytes: what is written of them is what is read.
 use Rattle.std.proofs.Common.{◌≡◌, ℕ, zero, suc, ◌+◌, ◌*◌, ◌<◌, List, [], ◌∷◌, ◌++◌, length, get_or, drop, sym, refl, ap, ◌∙◌, arith, get_or-drop}
 use Rattle.std.specs.List.{flat_map}
-use Rattle.std.proofs.lemmas.List.FromFn.{fill_by_all}
+use Rattle.std.proofs.lemmas.List.FromFn.{fill_by_all, length-map-range_with_len}
 use Rattle.cards.specs.Pairs.{variable_at, image_at}
 use Rattle.dockets.specs.Encoding.{field, pair}
 use Rattle.dockets.specs.Reading.{field_at, pairs_at}
@@ -20,6 +20,9 @@ field_from docket at rest e k j i =
 pub length_pairs : (pairs : List (ℕ × ℕ)) → length (flat_map pair pairs) ≡ 4 * length pairs
 length_pairs [] = refl
 length_pairs (p ∷ pairs) = let e = length_pairs pairs in omega arith
+
+pub length_pairs_at : (docket : List ℕ) (place : ℕ) → length (flat_map pair (pairs_at docket place)) ≡ 4 * field_at docket place
+length_pairs_at docket place = length_pairs (pairs_at docket place) ∙ ap (λ n. 4 * n) (length-map-range_with_len _ 0 (field_at docket place))
 
 module _ (behind : List ℕ) where
   pub variable_read : (pairs : List (ℕ × ℕ)) (k : ℕ) → k < length pairs → field_at (flat_map pair pairs ++ behind) (4 * k) ≡ variable_at pairs k

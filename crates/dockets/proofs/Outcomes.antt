@@ -1,14 +1,14 @@
 -- Every place of every docket has one outcome: each check can be decided.
-use Rattle.std.proofs.Common.{◌≡◌, ℕ, zero, suc, ◌+◌, ◌*◌, ◌<◌, ◌≤◌, ◌⊎◌, List, length, get_or, refl, inl, inr, ⊎_elim, arith}
+use Rattle.std.proofs.Common.{◌≡◌, ℕ, suc, ◌+◌, ◌*◌, ◌<◌, ◌≤◌, ◌⊎◌, List, [], ◌∷◌, length, get_or, refl, inl, inr, ⊎_elim, arith}
 use Rattle.std.proofs.lemmas.Bool.{cases_eq, cases_lt}
 use Rattle.calculus.specs.Literals.{var}
 use Rattle.cards.specs.Pairs.{variable_at, image_at, VariableFits, ImageFits}
 use Rattle.cards.proofs.Marks.{Decides, all_or_first}
 use Rattle.cards.proofs.Reading.{cases_named}
-use Rattle.dockets.specs.Reading.{Whole, pairs_at, field_at, pair_checks, pairs_checks, naming_checks, card_checks, Kind, axioms, resolutions, reductions, symmetries, unknown, kind_of, field_checks, line_checks}
+use Rattle.dockets.specs.Reading.{Whole, pairs_at, field_at, pair_checks, naming_check, pairs_checks, naming_checks, card_checks, Kind, axioms, resolutions, reductions, symmetries, unknown, kind_of, field_checks, line_checks}
 use Rattle.dockets.specs.Theorems.{PlacesHaveOneOutcome}
 use Rattle.dockets.proofs.MapBytes.{known}
-use Rattle.dockets.proofs.Checks.{Decided, decided_append, some_outcome, never_both, one_fault}
+use Rattle.dockets.proofs.Checks.{Decided, decided_append, each_decided, some_outcome, never_both, one_fault}
 
 -- ways to decide
 
@@ -51,16 +51,12 @@ module _ (docket : List ℕ) where
   whole : (byte : ℕ) → Whole docket byte ⊎ (Whole docket byte → ⊥)
   whole byte = cases_le (byte + 2) (length docket)
 
-  pairs_decided : (place k n : ℕ) → Decided (pairs_checks docket place k n)
-  pairs_decided place k zero = tt
-  pairs_decided place k (suc n) =
-      decided_append (pair_checks docket place k) (pairs_checks docket place (suc k) n)
+  pair_decided : (place k : ℕ) → Decided (pair_checks docket place k)
+  pair_decided place k =
       (whole (place + 2 + 4 * k), (variable_decided (pairs_at docket place) k, (whole (place + 4 + 4 * k), (image_decided (pairs_at docket place) k, tt))))
-      (pairs_decided place (suc k) n)
 
-  naming_decided : (place k n : ℕ) → Decided (naming_checks docket place k n)
-  naming_decided place k zero = tt
-  naming_decided place k (suc n) = (cases_named (pairs_at docket place) (var (image_at (pairs_at docket place) k)), naming_decided place (suc k) n)
+  naming_decided : (place k : ℕ) → Decided (naming_check docket place k ∷ [])
+  naming_decided place k = (cases_named (pairs_at docket place) (var (image_at (pairs_at docket place) k)), tt)
 
   card_decided : (place : ℕ) → Decided (card_checks docket place)
   card_decided place = (
@@ -68,7 +64,8 @@ module _ (docket : List ℕ) where
     (
       cases_le (field_at docket place) 512,
       decided_append (pairs_checks docket place 0 (field_at docket place)) (naming_checks docket place 0 (field_at docket place))
-          (pairs_decided place 0 (field_at docket place)) (naming_decided place 0 (field_at docket place)),
+          (each_decided (pair_checks docket place) (pair_decided place) 0 (field_at docket place))
+          (each_decided (λ k. naming_check docket place k ∷ []) (naming_decided place) 0 (field_at docket place)),
     ),
   )
 

@@ -1,14 +1,14 @@
 -- What is written of an entry is read as that entry, wherever it stands.
-use Rattle.std.proofs.Common.{◌≡◌, ℕ, suc, ◌+◌, ◌-◌, ◌*◌, ◌<◌, ◌≤◌, List, ◌++◌, length, get_or, drop, sym, refl, ap, ◌∙◌, subst, arith, length-append, length-drop, get_or-drop, drop-drop}
+use Rattle.std.proofs.Common.{◌≡◌, ℕ, suc, ◌+◌, ◌-◌, ◌*◌, ◌<◌, ◌≤◌, List, [], ◌∷◌, ◌++◌, length, get_or, drop, sym, refl, ap, ◌∙◌, subst, arith, length-append, length-drop, get_or-drop, drop-drop}
 use lib.Seq.{drop-append_seam}
 use Rattle.std.specs.List.{flat_map}
 use Rattle.calculus.specs.Literals.{var}
 use Rattle.cards.specs.Pairs.{Lawful, Named, VariableFits, ImageFits, image_at}
 use Rattle.dockets.specs.Encoding.{Entry, axiom_entry, resolution_entry, reduction_entry, symmetry_entry, field, pair, encoded, Writable}
-use Rattle.dockets.specs.Reading.{Hold, field_at, pairs_at, pair_checks, pairs_checks, naming_checks, card_checks, Kind, axioms, resolutions, reductions, symmetries, unknown, kind_of, field_checks, line_checks, entry_of, entry_at, length_of, length_at}
+use Rattle.dockets.specs.Reading.{Hold, field_at, pairs_at, pair_checks, naming_check, pairs_checks, naming_checks, card_checks, Kind, axioms, resolutions, reductions, symmetries, unknown, kind_of, field_checks, line_checks, entry_of, entry_at, length_of, length_at}
 use Rattle.dockets.specs.Theorems.{DecodingUndoesEncoding}
 use Rattle.dockets.proofs.MapBytes.{known}
-use Rattle.dockets.proofs.Checks.{hold_append, pairs_hold, naming_holds}
+use Rattle.dockets.proofs.Checks.{hold_append, each_holds}
 use Rattle.dockets.proofs.FieldBytes.{field_from, length_pairs, count_read, pairs_read}
 
 -- the entry is read at this offset
@@ -38,8 +38,8 @@ module _ (behind : List ℕ) (docket : List ℕ) (place : ℕ) (pairs : List (�
   count : field_at docket place ≡ length pairs
   count = count_read behind docket place pairs e
 
-  each : (k : ℕ) → k < length pairs → Hold (pair_checks docket place k)
-  each k h = (
+  each_pair : (k : ℕ) → k < length pairs → Hold (pair_checks docket place k)
+  each_pair k h = (
     omega (arith, long),
     (
       subst (λ ps. VariableFits ps k) (sym read) (lawful.fit k h).0,
@@ -53,9 +53,9 @@ module _ (behind : List ℕ) (docket : List ℕ) (place : ℕ) (pairs : List (�
     (
       omega (arith, count, lawful.few),
       hold_append (pairs_checks docket place 0 (field_at docket place)) (naming_checks docket place 0 (field_at docket place))
-          (pairs_hold docket place 0 (field_at docket place) (λ j a b. each j (omega (arith, count))))
-          (naming_holds docket place 0 (field_at docket place)
-          (λ j a b. subst (λ ps. Named ps (var (image_at ps j))) (sym read) (lawful.named j (omega (arith, count))))),
+          (each_holds (pair_checks docket place) (field_at docket place) (λ j h. each_pair j (omega (arith, count))))
+          (each_holds (λ j. naming_check docket place j ∷ []) (field_at docket place)
+          (λ j h. (subst (λ ps. Named ps (var (image_at ps j))) (sym read) (lawful.named j (omega (arith, count))), tt))),
     ),
   )
 

@@ -6,10 +6,10 @@ use Rattle.std.proofs.lemmas.List.{drop_more}
 use Rattle.std.proofs.lemmas.Bool.{cases_eq}
 use Rattle.cards.specs.Pairs.{Lawful}
 use Rattle.dockets.specs.Encoding.{field, pair, encoded, Fits, Writable}
-use Rattle.dockets.specs.Reading.{Hold, field_at, pairs_at, pair_checks, pairs_checks, naming_checks, card_checks, Kind, axioms, resolutions, reductions, symmetries, unknown, kind_of, field_checks, entry_of, length_of}
+use Rattle.dockets.specs.Reading.{Hold, field_at, pairs_at, pair_checks, naming_check, pairs_checks, naming_checks, card_checks, Kind, axioms, resolutions, reductions, symmetries, unknown, kind_of, field_checks, entry_of, length_of}
 use Rattle.dockets.specs.Theorems.{EncodingUndoesDecoding}
 use Rattle.dockets.proofs.MapBytes.{Byte, byte_is}
-use Rattle.dockets.proofs.Checks.{hold_parts, pairs_held, naming_held}
+use Rattle.dockets.proofs.Checks.{hold_parts, each_held}
 
 byte_below : (docket : List ℕ) → AllByRecursion (λ b. b < 256) docket → (i : ℕ) → get_or docket i 0 < 256
 byte_below [] all i = omega arith
@@ -27,20 +27,20 @@ module _ (docket : List ℕ) (place : ℕ) (holds : Hold (card_checks docket pla
   abbrev parts : Hold (pairs_checks docket place 0 (field_at docket place)) × Hold (naming_checks docket place 0 (field_at docket place))
   parts = hold_parts (pairs_checks docket place 0 (field_at docket place)) (naming_checks docket place 0 (field_at docket place)) holds.1.1
 
-  each : (k : ℕ) → k < field_at docket place → Hold (pair_checks docket place k)
-  each k h = pairs_held docket place 0 (field_at docket place) parts.0 k (omega arith) (omega arith)
+  each_pair : (k : ℕ) → k < field_at docket place → Hold (pair_checks docket place k)
+  each_pair = each_held (pair_checks docket place) (field_at docket place) parts.0
 
   pub lawful : Lawful pairs
   lawful = record {
     few = omega (arith, count, holds.1.0);
-    fit = λ j h. let c = each j (omega (arith, count)) in (c.1.0, c.1.1.1.0);
-    named = λ k h. naming_held docket place 0 (field_at docket place) parts.1 k (omega arith) (omega (arith, count));
+    fit = λ j h. let c = each_pair j (omega (arith, count)) in (c.1.0, c.1.1.1.0);
+    named = λ k h. (each_held (λ j. naming_check docket place j ∷ []) (field_at docket place) parts.1 k (omega (arith, count))).0;
   }
 
   -- its pairs are there
   pub pairs_there : place + 2 + 4 * field_at docket place ≤ length docket
   pairs_there =
-      ⊎_elim (λ e. omega (arith, holds.0)) (λ some. let c = each (field_at docket place - 1) (omega arith) in omega (arith, c.1.1.0)) (cases_eq (field_at docket place) 0)
+      ⊎_elim (λ e. omega (arith, holds.0)) (λ some. let c = each_pair (field_at docket place - 1) (omega arith) in omega (arith, c.1.1.0)) (cases_eq (field_at docket place) 0)
 
 module _ (docket : List ℕ) (bytes : AllByRecursion (λ b. b < 256) docket) where
   field_fits : (byte : ℕ) → Fits (field_at docket byte)

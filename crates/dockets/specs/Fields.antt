@@ -1,22 +1,21 @@
--- Fields of a docket that are read from the bytes that begin with them.
-use Rattle.std.specs.Prelude.{◌≡◌, ℕ, ◌+◌, ◌*◌, List, map, drop}
+-- Fields from a byte of a docket on: pairs of them, and how many are whole.
+use Rattle.std.specs.Prelude.{ℕ, ◌+◌, ◌-◌, ◌*◌, ◌/◌, ◌<◌, List, map, length}
 use Rattle.std.specs.List.{range_with_len}
-use Rattle.dockets.specs.Reading.{field_at, Whole}
+use Rattle.dockets.specs.Placing.{IsFault}
+use Rattle.dockets.specs.Reading.{field_at}
+use Rattle.dockets.specs.declared.fault.LineRule.TheVariants.{Short}
+use Rattle.dockets.specs.declared.fault.LineFault.{LineFault}
 
--- the bytes are those of the docket from a place on, but for those passed
-abbrev pub Stand : List ℕ → ℕ → ℕ → List ℕ → Type 0
-Stand docket place passed bytes = bytes ≡ drop passed (drop place docket)
+-- pair k of those from a byte on, and so many of them
+abbrev pub pair_from : List ℕ → ℕ → ℕ → ℕ × ℕ
+pair_from docket at k = (field_at docket (at + 4 * k), field_at docket (at + (4 * k + 2)))
 
--- the field behind those passed is there and has this value, and these bytes stand behind it
-pub record Taken (docket : List ℕ) (place passed value : ℕ) (rest : List ℕ) : Type 0 where
-  pub whole : Whole docket (place + passed)
-  pub value_is : value ≡ field_at docket (place + passed)
-  pub behind : Stand docket place (passed + 2) rest
-  pub rest_is : rest ≡ drop (place + (passed + 2)) docket
+abbrev pub pairs_from : List ℕ → ℕ → ℕ → List (ℕ × ℕ)
+pairs_from docket at n = map (pair_from docket at) (range_with_len 0 n)
 
--- pair k of those that some bytes begin with
-abbrev pub pair_in : List ℕ → ℕ → ℕ × ℕ
-pair_in bytes k = (field_at bytes (4 * k), field_at bytes (4 * k + 2))
+abbrev pub whole_fields : List ℕ → ℕ → ℕ
+whole_fields docket at = (length docket - at) / 2
 
-abbrev pub pairs_in : List ℕ → ℕ → List (ℕ × ℕ)
-pairs_in bytes count = map (pair_in bytes) (range_with_len 0 count)
+-- fewer fields are whole than are asked for, and the fault is at the first that is cut off
+abbrev pub CutOff : List ℕ → ℕ → ℕ → LineFault → Type 0
+CutOff docket at asked fault = (whole_fields docket at < asked) × IsFault Short (at + 2 * whole_fields docket at) fault

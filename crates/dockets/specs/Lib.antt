@@ -2,7 +2,9 @@ pub mod Encoding
 pub mod Reading
 pub mod Parts
 pub mod Lines
+pub mod Printed
+pub mod Kinds
+pub mod Heads
 pub mod Fields
 pub mod Placing
-pub mod Behind
 pub mod Theorems

@@ -1,13 +1,14 @@
 -- The part of a docket that is the line at an offset: all of its bytes are there; of a card only the count is judged.
-use Rattle.std.specs.Prelude.{◌≡◌, ℕ, zero, suc, ◌+◌, ◌*◌, ◌<◌, ◌≤◌, List, [], ◌∷◌, length, slice_index}
-use Rattle.dockets.specs.Reading.{Check, present, field_at, Kind, axioms, resolutions, reductions, symmetries, unknown, kind_of}
+use Rattle.std.specs.Prelude.{◌≡◌, ℕ, ◌+◌, ◌*◌, ◌<◌, ◌≤◌, List, [], ◌∷◌, length, slice_index}
+use Rattle.dockets.specs.Reading.{Check, each, present, field_at, Kind, axioms, resolutions, reductions, symmetries, unknown, kind_of}
 use Rattle.dockets.specs.declared.fault.LineRule.TheVariants.{Map, Short, Card}
 
--- the fields of n pairs from pair k on are there
+-- the two fields of pair k are there, and those of n pairs from pair k on
+abbrev pub presence_check : List ℕ → ℕ → ℕ → List Check
+presence_check docket place k = present docket (place + 2 + 4 * k) ∷ present docket (place + 4 + 4 * k) ∷ []
+
 abbrev pub presence_checks : List ℕ → ℕ → ℕ → ℕ → List Check
-presence_checks docket place k zero = []
-presence_checks docket place k (suc n) =
-    present docket (place + 2 + 4 * k) ∷ present docket (place + 4 + 4 * k) ∷ presence_checks docket place (suc k) n
+presence_checks docket place = each (presence_check docket place)
 
 abbrev pub part_field_checks : List ℕ → ℕ → Kind → List Check
 part_field_checks docket at axioms = present docket (at + 1) ∷ []

@@ -1,9 +1,8 @@
--- Where a fault of pairs stands in a docket of which the last pairs may be cut off.
-use Rattle.std.specs.Prelude.{◌≡◌, ℕ, ◌+◌, ◌*◌, ◌<◌, ◌≤◌, ◌⊎◌}
+-- Where a fault of pairs stands in a docket, and how many fields are asked for before it is found.
+use Rattle.std.specs.Prelude.{◌≡◌, ℕ, ◌+◌, ◌*◌}
 use Rattle.cards.specs.declared.fault.CardFault.{CardFault}
 use Rattle.cards.specs.declared.fault.CardFault.TheVariants.{Many, Variable as InVariable, Image as InImage, Unnamed}
 use Rattle.dockets.specs.declared.fault.LineRule.{LineRule}
-use Rattle.dockets.specs.declared.fault.LineRule.TheVariants.{Short, Card}
 use Rattle.dockets.specs.declared.fault.LineFault.{LineFault}
 
 -- how many fields behind the count of a card are asked for before the fault is found; each pair has two
@@ -22,8 +21,3 @@ byte_of place (Unnamed k) = place + 4 + 4 * k
 
 abbrev pub IsFault : LineRule → ℕ → LineFault → Type 0
 IsFault rule byte fault = (fault.rule ≡ rule) × (fault.byte ≡ byte)
-
--- the first field that is cut off where it is asked for, and otherwise the field that has the fault
-abbrev pub Placed : ℕ → ℕ → ℕ → CardFault → LineFault → Type 0
-Placed place count whole fault r =
-    ((whole < asked count fault) × IsFault Short (place + 2 + 2 * whole) r) ⊎ ((asked count fault ≤ whole) × IsFault Card (byte_of place fault) r)

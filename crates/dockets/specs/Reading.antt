@@ -58,14 +58,21 @@ pair_checks docket place k =
 abbrev pub naming_check : List ℕ → ℕ → ℕ → Check
 naming_check docket place k = (Card, place + 4 + 4 * k, Named (pairs_at docket place) (var (image_at (pairs_at docket place) k)))
 
--- n pairs from pair k on, one after the other
+-- the checks of n numbers from k on, one after the other
+abbrev pub each : (ℕ → List Check) → ℕ → ℕ → List Check
+each checks k zero = []
+each checks k (suc n) = checks k ++ each checks (suc k) n
+
+-- n pairs from pair k on
 abbrev pub pairs_checks : List ℕ → ℕ → ℕ → ℕ → List Check
-pairs_checks docket place k zero = []
-pairs_checks docket place k (suc n) = pair_checks docket place k ++ pairs_checks docket place (suc k) n
+pairs_checks docket place = each (pair_checks docket place)
 
 abbrev pub naming_checks : List ℕ → ℕ → ℕ → ℕ → List Check
-naming_checks docket place k zero = []
-naming_checks docket place k (suc n) = naming_check docket place k ∷ naming_checks docket place (suc k) n
+naming_checks docket place = each (λ k. naming_check docket place k ∷ [])
+
+-- the count of a card's pairs is there, and at most 512
+abbrev pub count_checks : List ℕ → ℕ → List Check
+count_checks docket place = present docket place ∷ (Card, place, field_at docket place ≤ 512) ∷ []
 
 -- a card: its count, at most 512, then its pairs one by one, and last that every image is over a variable that is named
 abbrev pub card_checks : List ℕ → ℕ → List Check

@@ -2,22 +2,16 @@
 ghost use Rattle.dockets.specs.Theorems.{DecodingUndoesEncoding, EncodingUndoesDecoding, PlacesHaveOneOutcome};
 
 // What is written of an entry, at any place of any docket, is read as that entry.
-pub fn decoding_undoes_encoding() -> u8
+pub fn decoding_undoes_encoding()
     ensures { DecodingUndoesEncoding }
-{
-    0
-}
+{}
 
 // A line that is read is its entry as it is written, byte for byte.
-pub fn encoding_undoes_decoding() -> u8
+pub fn encoding_undoes_decoding()
     ensures { EncodingUndoesDecoding }
-{
-    0
-}
+{}
 
 // At each place of every docket there is a line or a first fault, never both, and only one fault.
-pub fn every_place_has_one_outcome() -> u8
+pub fn every_place_has_one_outcome()
     ensures { PlacesHaveOneOutcome }
-{
-    0
-}
+{}

@@ -2,11 +2,12 @@
 #![tactic(auto)]
 
 mod card;
+mod cursor;
 mod cutting;
 mod decoding;
 mod fault;
-mod fields;
 mod format;
+mod kind;
 mod line;
 mod parts;
 

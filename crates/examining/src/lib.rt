@@ -3,17 +3,13 @@
 
 ghost use Rattle.examining.specs.Examined.{EndsOnce};
 
-mod claim;
 mod claiming;
 mod examination;
-mod lines;
 mod steps;
 
 pub use examination::examine;
 
 // Examining a docket from one standing comes to one result and one standing.
-pub fn examining_ends_once() -> u8
+pub fn examining_ends_once()
     ensures { EndsOnce }
-{
-    0
-}
+{}

@@ -1,9 +1,7 @@
 // One line of a docket, decoded and claimed.
-ghost use Rattle.case.specs.Standing.{standing};
 ghost use Rattle.examining.specs.Steps.{Stepped};
 
-use super::claiming::{claim_at, make};
-use super::lines::line_len;
+use super::claiming::claim_at;
 use case::Case;
 use faults::{DocketFault, with_place};
 use formula::Formula;
@@ -15,9 +13,9 @@ pub(crate) fn step<F: Formula, S: Shelf>(
     docket: &[u8],
     at: usize,
 ) -> Result<usize, DocketFault>
-    ensures { Stepped (standing F.meaning S.meaning case.old) docket.now at result (standing F.meaning S.meaning case.new) }
+    ensures { Stepped case.old.standing docket.now at result case.new.standing }
 {
-    let claim = claim_at(docket, at)?;
-    with_place(make(case, claim), at)?;
-    Ok(at + line_len(docket, at))
+    let (claim, next) = claim_at(docket, at)?;
+    with_place(case.claim(claim), at)?;
+    Ok(next)
 }

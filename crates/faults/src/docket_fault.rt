@@ -5,13 +5,26 @@ ghost use Rattle.faults.specs.declared.docket_fault.DocketFault.TheVariants.{Lin
 use super::placed::Placed;
 use case::Refusal;
 use dockets::LineFault;
+use std::error::Error;
+use std::fmt;
 
 // The bytes are no line; or the claim is refused, and this is the offset of its map byte.
-#[derive(Clone, Copy)]
+#[derive(Clone, Copy, Debug, PartialEq, Eq)]
 pub enum DocketFault {
     Line(LineFault),
     Claim(Refusal, usize),
 }
+
+impl fmt::Display for DocketFault {
+    fn fmt<W: fmt::Write>(&self, f: &mut fmt::Formatter<W>) -> fmt::Result {
+        match self {
+            DocketFault::Line(line) => write!(f, "{line}"),
+            DocketFault::Claim(refusal, byte) => write!(f, "{refusal} at byte {byte}"),
+        }
+    }
+}
+
+impl Error for DocketFault {}
 
 impl From<LineFault> for DocketFault {
     ghost from_gives = { λ f r. r ≡ Line f };

@@ -5,13 +5,26 @@ ghost use Rattle.faults.specs.declared.report_fault.ReportFault.TheVariants.{Tex
 use super::docket_fault::DocketFault;
 use super::placed::Placed;
 use grammar::TextFault;
+use std::error::Error;
+use std::fmt;
 
 // The text is no formula; or the docket has a fault, and so many lines were kept by then.
-#[derive(Clone, Copy)]
+#[derive(Clone, Copy, Debug, PartialEq, Eq)]
 pub enum ReportFault {
     Text(TextFault),
     Docket(DocketFault, usize),
 }
+
+impl fmt::Display for ReportFault {
+    fn fmt<W: fmt::Write>(&self, f: &mut fmt::Formatter<W>) -> fmt::Result {
+        match self {
+            ReportFault::Text(text) => write!(f, "{text}"),
+            ReportFault::Docket(fault, lines) => write!(f, "{fault}, lines kept {lines}"),
+        }
+    }
+}
+
+impl Error for ReportFault {}
 
 impl From<TextFault> for ReportFault {
     ghost from_gives = { λ f r. r ≡ Text f };

@@ -3,6 +3,11 @@
 
 ghost use Rattle.std.specs.Prelude.{ℕ, length, ◌≡◌};
 ghost use Rattle.calculus.specs.Meaning.{Meaning, Formed, level_of, quantifier_of, clause_of, literal_of};
+ghost use Rattle.formula.specs.Quantifiers.{quantifier_number};
+
+mod quantifier;
+
+pub use quantifier::Quantifier;
 
 pub trait Formula {
     // what the formula is
@@ -19,9 +24,9 @@ pub trait Formula {
     fn level(&self, v: usize) -> u16
         ensures { result ≡ level_of (meaning self.now) v };
 
-    // The quantifier of variable v: 1 existential, 2 universal; 0 where v is no variable.
-    fn quantifier(&self, v: usize) -> u16
-        ensures { result ≡ quantifier_of (meaning self.now) v };
+    // The quantifier of variable v; none where v is no variable.
+    fn quantifier(&self, v: usize) -> Option<Quantifier>
+        ensures { quantifier_number result ≡ quantifier_of (meaning self.now) v };
 
     // The number of its clauses, which are numbered from 0.
     fn clause_count(&self) -> usize
@@ -50,7 +55,7 @@ impl<'a, F: Formula> Formula for &'a F {
         (**self).level(v)
     }
 
-    fn quantifier(&self, v: usize) -> u16 {
+    fn quantifier(&self, v: usize) -> Option<Quantifier> {
         (**self).quantifier(v)
     }
 

@@ -4,8 +4,9 @@ use Rattle.std.proofs.lemmas.List.{nil_from_length, map-append}
 use Rattle.std.proofs.lemmas.Bool.{or_from, or_parts, and_from, and_cases, and_parts, and_right, not-false, not_from_true, eqb-true, eqb-false, eq-eqb, true≢false}
 use Rattle.words.specs.declared.token.Lexeme.{Lexeme}
 use Rattle.words.specs.Tokens.{token_of}
-use Rattle.words.specs.Words.{words, lexeme, lexemes}
+use Rattle.words.specs.Words.{lexemes}
 use Rattle.calculus.specs.Meaning.{Meaning}
+use Rattle.words.proofs.Spacing.{tokens_spelled}
 use Rattle.grammar.specs.declared.rule.Rule.{Rule}
 use Rattle.grammar.specs.Draft.{Block, Draft, nothing, problem, format, sized, binding, matrix, spell, formula_of}
 use Rattle.grammar.specs.Lawful.{Sizes, AllBound, Lawful}
@@ -125,11 +126,6 @@ only S text (refused rule at) r =
 pub one_outcome : OneOutcome
 one_outcome S text = (outcome S text nothing (lexemes text), comes_to S text nothing [] (lexemes text) refl tt refl, only S text)
 
--- what the words say depends on their spelling alone
-pub tokens_spelled : (ws : List (ℕ × List ℕ)) → tokens (map lexeme ws) ≡ map token_of (map (λ w. w.1) ws)
-tokens_spelled [] = refl
-tokens_spelled (w ∷ ws) = ap (λ x. token_of w.1 ∷ x) (tokens_spelled ws)
-
 pub words_decide : WordsDecide
 words_decide S text other e m r = record {
   n = r.n;
@@ -137,6 +133,6 @@ words_decide S text other e m r = record {
   clauses = r.clauses;
   lawful = r.lawful;
   bound = r.bound;
-  spells = tokens_spelled (words other) ∙ ap (map token_of) (sym e) ∙ sym (tokens_spelled (words text)) ∙ r.spells;
+  spells = tokens_spelled other ∙ ap (map token_of) (sym e) ∙ sym (tokens_spelled text) ∙ r.spells;
   formula = r.formula;
 }

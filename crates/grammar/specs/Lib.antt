@@ -3,4 +3,5 @@ pub mod Lawful
 pub mod Next
 pub mod Fault
 pub mod Outcome
+pub mod Printed
 pub mod Theorems

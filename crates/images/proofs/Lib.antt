@@ -1,2 +1,2 @@
-mod Places
 pub mod Admitted
+mod Places

@@ -1,3 +1,4 @@
 pub mod Imaged
+pub mod Admitted
 pub mod Within
 pub mod Refusals

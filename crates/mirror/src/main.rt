@@ -1,43 +1,10 @@
 // Reads formula.qdimacs and prints the formula with every literal negated, or the line that reports the first fault of the text.
 #![tactic(auto)]
 
-use std::alloc::Global;
-use std::io::Write;
-use std::{fs, io};
-
-// the longest text that is read
-const LONGEST: usize = 65536;
-
-// cells for every literal and every clause, and a buffer for every text that is written
-const LITERALS: usize = 16384;
-
-const CLAUSES: usize = 2048;
-
-const WRITTEN: usize = 90127;
-
-// The bytes of a file; none where there is no such file.
-fn bytes_of(rt: &HostRuntime, heap: Global, path: &str) -> io::Result<Vec<u8>> {
-    match fs::read(rt, path) {
-        Ok(bytes) => Ok(bytes),
-        Err(e) => {
-            if e.kind() == io::ErrorKind::NotFound {
-                Ok(Vec::new(heap))
-            } else {
-                Err(e)
-            }
-        }
-    }
-}
+use mirroring::Negated;
+use posting::print_changed;
+use std::io;
 
 fn main(rt: HostRuntime) -> io::Result<()> {
-    let heap = rt.alloc();
-    let text = bytes_of(&rt, heap, "formula.qdimacs")?;
-    if text.len() > LONGEST {
-        return println!(rt; "file too long");
-    }
-    let mut literals = vec![in heap; 0u16; LITERALS]?;
-    let mut ends = vec![in heap; 0u16; CLAUSES]?;
-    let mut out = vec![in heap; 0u8; WRITTEN]?;
-    let len = mirroring::mirror(&text, &mut literals, &mut ends, &mut out).unwrap();
-    rt.stdout().write_all(&out[0..len])
+    print_changed::<Negated, _>(&rt)
 }

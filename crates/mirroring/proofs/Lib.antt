@@ -1,3 +1,2 @@
 mod Negations
 mod Negating
-mod Outcomes

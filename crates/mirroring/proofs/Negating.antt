@@ -1,5 +1,5 @@
 -- What a card that negates every variable does to a formula.
-use Rattle.std.proofs.Common.{◌≡◌, ℕ, ◌+◌, ◌*◌, ◌%◌, List, [], ◌∷◌, map, length, sum_by, refl, ap, ◌∙◌, ⊎_elim, arith}
+use Rattle.std.proofs.Common.{◌≡◌, ℕ, ◌+◌, ◌*◌, ◌%◌, ◌≤◌, List, [], ◌∷◌, map, length, sum_by, refl, ap, ◌∙◌, ⊎_elim, arith}
 use lib.ListN.{length-map}
 use Rattle.std.proofs.ByRecursion.{All-map, All-weaker}
 use Rattle.std.proofs.lemmas.List.Sums.{sum_by-cons}
@@ -13,6 +13,9 @@ use Rattle.laws.proofs.Sets.{neg_is}
 use Rattle.images.specs.Imaged.{imaged}
 use Rattle.images.proofs.Admitted.{map_same}
 use Rattle.writer.specs.Back.{FitsLimits}
+use Rattle.writer.specs.Short.{longest}
+use Rattle.writer.specs.Written.{written}
+use Rattle.writer.proofs.Lengths.{written_short}
 use Rattle.mirroring.specs.Negation.{negated, Negates}
 
 module _ (n : ℕ) (card : Card) (negates : Negates n card) where
@@ -37,7 +40,7 @@ module _ (m : Meaning) (formed : Formed m) where
   clause_negated C c =
       (omega (arith, c.0, length-map C neg), All-map (Code m.n) neg C (All-weaker (Code m.n) (λ l. Code m.n (neg l)) code_negated C c.1))
 
-  pub negated_formed : Formed (negated m)
+  negated_formed : Formed (negated m)
   negated_formed = record {
     prefix = formed.prefix;
     few_clauses = omega (arith, formed.few_clauses, length-map m.clauses (map neg));
@@ -51,5 +54,9 @@ total_negated [] = refl
 total_negated (C ∷ Cs) =
     omega (arith, sum_by-cons length C Cs, sum_by-cons length (map neg C) (map (map neg) Cs), length-map C neg, total_negated Cs)
 
-pub negated_within : (m : Meaning) → FitsLimits m → FitsLimits (negated m)
+negated_within : (m : Meaning) → FitsLimits m → FitsLimits (negated m)
 negated_within m few = omega (arith, total_negated m.clauses)
+
+-- in as many bytes at most when its literals are negated
+pub negated_short : (m : Meaning) → Formed m → FitsLimits m → length (written (negated m)) ≤ longest
+negated_short m formed few = written_short (negated m) (negated_formed m formed) (negated_within m few)

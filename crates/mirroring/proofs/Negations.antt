@@ -1,16 +1,9 @@
 -- The pairs of variables and their negations make a card, which negates these variables.
-use Rattle.std.proofs.Common.{◌≡◌, ℕ, zero, suc, ◌+◌, ◌*◌, ◌<◌, ◌≤◌, true, List, length, get_or, take, set, is_ok, Ok, Err, Result, refl, ap, ◌∙◌, arith, length-take-le, get_or-set_other, get_or-take, get_or-set_same, below_more, MatchResult}
+use Rattle.std.proofs.Common.{◌≡◌, ℕ, zero, suc, ◌+◌, ◌*◌, ◌<◌, ◌≤◌, true, List, length, get_or, take, is_ok, Ok, Err, Result, refl, ap, ◌∙◌, arith, length-take-le, get_or-take, MatchResult}
 use Rattle.calculus.specs.Meaning.{Variable}
 use Rattle.laws.specs.Cards.{Card, image_of}
 use Rattle.cards.specs.Pairs.{variable_at, image_at, Lawful, Makes}
 use Rattle.mirroring.specs.Negation.{Negates, Negations}
-
--- one pair more
-pub one_more : (pairs : List (ℕ × ℕ)) (k : ℕ) → k < length pairs → Negations k pairs → Negations (k + 1) (set pairs k (k + 1, 2 * (k + 1) + 1))
-one_more pairs k h below =
-    let pair : ℕ × ℕ = (k + 1, 2 * (k + 1) + 1) in
-    below_more (λ j. get_or (set pairs k pair) j (0, 0) ≡ (j + 1, 2 * (j + 1) + 1)) k (λ j l. get_or-set_other pairs k j pair (0, 0) (omega arith) ∙ below j l)
-    (get_or-set_same pairs k pair (0, 0) h)
 
 module _ (all : List (ℕ × ℕ)) (n : ℕ) (few : n ≤ 512) (long : length all ≡ 512) (each : Negations 512 all) where
   abbrev pairs : List (ℕ × ℕ)

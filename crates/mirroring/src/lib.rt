@@ -2,19 +2,17 @@
 // fault, written into a lent buffer.
 #![tactic(auto)]
 
-ghost use Rattle.std.specs.Prelude.{ℕ, List};
-ghost use Rattle.grammar.specs.Lawful.{Sizes};
 ghost use Rattle.reading.specs.Stands.{sizes};
-ghost use Rattle.text.specs.Filled.{Filled};
 ghost use Rattle.tidying.specs.Tidied.{Room};
 ghost use Rattle.mirroring.specs.Mirrored.{Mirrored};
+ghost use Rattle.mirroring.specs.Negation.{negated};
 
 mod image;
 mod negation;
 
-use grammar::TextFault;
+use formula::Formula;
 use image::write_image;
-use text::{Outline, Table};
+use tidying::{Change, write_changed};
 use writer::WriteFault;
 
 // Writes the formula of a text with every literal negated, or the line that reports the text's first fault; answers how long that is. A
@@ -28,24 +26,16 @@ pub fn mirror(
     ensures mirrors { Mirrored (sizes literals.old ends.old) text.now result out.old out.new literals.new ends.new }
     ensures room { Room out.old result }
 {
-    let outcome = text::read(text, literals, ends);
-    write_outcome(outcome, literals, ends, out)
+    write_changed::<Negated>(text, literals, ends, out)
 }
 
-// Writes what reading a text came to, where these cells hold the clauses.
-fn write_outcome<'a>(
-    outcome: Result<Outline, TextFault>,
-    literals: &'a [u16],
-    ends: &'a [u16],
-    out: &mut [u8],
-) -> Result<usize, WriteFault>
-    ensures { (S : Sizes) (text : List ℕ) → Filled S text outcome literals.now ends.now → Mirrored S text result out.old out.new literals.now ends.now × Room out.old result }
-{
-    match outcome {
-        Ok(outline) => {
-            let table = Table::over(outline, literals, ends);
-            write_image(&table, out)
-        }
-        Err(fault) => writer::write_refusal(fault, out),
+// The formula is written with every literal negated.
+pub struct Negated;
+
+impl Change for Negated {
+    ghost change = { negated };
+
+    fn write<F: Formula>(f: &F, out: &mut [u8]) -> Result<usize, WriteFault> {
+        write_image(f, out)
     }
 }

@@ -4,6 +4,7 @@ ghost use Rattle.cards.specs.Meant.{meant};
 ghost use Rattle.mirroring.specs.Negation.{Negates, Negations};
 
 use cards::Card;
+use std::array;
 
 // The card that negates the variables 1 to n.
 pub(crate) fn negation(n: usize) -> Card
@@ -18,9 +19,8 @@ pub(crate) fn negation(n: usize) -> Card
 fn negations() -> [(u16, u16); 512]
     ensures { Negations 512 result }
 {
-    let mut pairs = [(0, 0); 512];
-    for k in 0..512u16 {
-        pairs[k as usize] = (k + 1, 2 * (k + 1) + 1);
-    }
-    pairs
+    array::from_fn(|k| {
+        let variable = k as u16 + 1;
+        (variable, 2 * variable + 1)
+    })
 }

@@ -17,11 +17,8 @@ pub record SamePrefix (s s' : State) : Type 0 where
   pub stage : s'.stage ≡ s.stage
   pub n : s'.n ≡ s.n
   pub m : s'.m ≡ s.m
-  pub levels : s'.levels ≡ s.levels
-  pub quantifiers : s'.quantifiers ≡ s.quantifiers
-  pub blocks : s'.blocks ≡ s.blocks
+  pub bindings : s'.bindings ≡ s.bindings
   pub latest_is : s'.latest ≡ s.latest
-  pub vacant : s'.vacant ≡ s.vacant
 
 -- cells that hold xs and then zeros, with one number more
 laid_more : (cells xs ys : List ℕ) (k x : ℕ) → cells ≡ padded (length cells) xs → k ≡ length xs → k < length cells → ys ≡ xs ++ (x ∷ []) →
@@ -39,11 +36,10 @@ module _ (s s' : State) (ls es : List ℕ) (p : SamePrefix s s') (n m : ℕ) (bs
     stage = p.stage ∙ st.stage;
     n = p.n ∙ st.n;
     m = p.m ∙ st.m;
-    levels = rw p.levels st.levels;
-    quantifiers = rw p.quantifiers st.quantifiers;
-    blocks = p.blocks ∙ st.blocks;
-    latest = p.latest_is ∙ st.latest;
-    vacant = p.vacant ∙ st.vacant;
+    levels = rw p.bindings st.levels;
+    quantifiers = rw p.bindings st.quantifiers;
+    blocks = rw p.latest_is st.blocks;
+    latest = rw p.latest_is st.latest;
     clauses = clauses ∙ st.clauses;
     count = omega (arith, literals, st.count);
     open_count = omega (arith, tail, st.open_count);
@@ -57,11 +53,10 @@ module _ (s s' : State) (ls es : List ℕ) (p : SamePrefix s s') (n m : ℕ) (bs
     stage = p.stage ∙ st.stage;
     n = p.n ∙ st.n;
     m = p.m ∙ st.m;
-    levels = rw p.levels st.levels;
-    quantifiers = rw p.quantifiers st.quantifiers;
-    blocks = p.blocks ∙ st.blocks;
-    latest = p.latest_is ∙ st.latest;
-    vacant = p.vacant ∙ st.vacant;
+    levels = rw p.bindings st.levels;
+    quantifiers = rw p.bindings st.quantifiers;
+    blocks = rw p.latest_is st.blocks;
+    latest = rw p.latest_is st.latest;
     clauses = omega (arith, clauses, st.clauses);
     count = omega (arith, literals, st.count, sum_by-cons length C Cs);
     open_count = tail;

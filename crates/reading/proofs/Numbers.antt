@@ -1,9 +1,6 @@
--- Words behind the blocks: numbers that may stand there, and what is neither a number nor a letter.
-use Rattle.std.proofs.Common.{◌≡◌, ℕ, ◌<◌, ◌≤◌, Bool, true, false, cond, length, Some, None, refl, arith}
+-- Words behind the blocks: numbers that may stand there.
+use Rattle.std.proofs.Common.{◌≡◌, ◌<◌, ◌≤◌, Bool, true, false, cond, length, None, arith}
 use Rattle.std.proofs.lemmas.Bool.Decides.{nat_tests}
-use Rattle.words.specs.declared.token.Token.{Token}
-use Rattle.words.specs.declared.token.Token.TheVariants.{Problem, Cnf, Exists, Forall, Number, Negative, Other}
-use Rattle.grammar.specs.declared.rule.Rule.TheVariants.{Spelling}
 use Rattle.grammar.specs.Draft.{Draft}
 use Rattle.grammar.specs.Lawful.{Sizes}
 use Rattle.grammar.specs.Next.{Next, sort, size}
@@ -27,14 +24,3 @@ module _ (S : Sizes) (d : Draft) (at : Matrix ≡ stage_of d) (t : Next) where
   literal_fits false number some =
       in_matrix (λ d. length (clauses_of d) < m_of d → full S d ≡ false → early d ≡ false → size t ≤ n_of d → fault S d t ≡ None)
       (λ n m bs Cs C h e i k. grind (arith, nat_tests)) d at
-
--- a word that is neither a number nor a letter
-pub strange : (S : Sizes) (d : Draft) → Matrix ≡ stage_of d → (t : Token) →
-    (t ≡ Exists → ⊥) → (t ≡ Forall → ⊥) → ((v : ℕ) → t ≡ Number v → ⊥) → ((v : ℕ) → t ≡ Negative v → ⊥) → fault S d (Some t) ≡ Some Spelling
-strange S d at Problem e a n m = in_matrix (λ d. fault S d (Some Problem) ≡ Some Spelling) (λ n m bs Cs C. refl) d at
-strange S d at Cnf e a n m = in_matrix (λ d. fault S d (Some Cnf) ≡ Some Spelling) (λ n m bs Cs C. refl) d at
-strange S d at Exists e a n m = absurd (e refl)
-strange S d at Forall e a n m = absurd (a refl)
-strange S d at (Number v) e a n m = absurd (n v refl)
-strange S d at (Negative v) e a n m = absurd (m v refl)
-strange S d at Other e a n m = in_matrix (λ d. fault S d (Some Other) ≡ Some Spelling) (λ n m bs Cs C. refl) d at

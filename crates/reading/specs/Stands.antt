@@ -8,15 +8,16 @@ use Rattle.grammar.specs.Fault.{fault, unbegun, unbound}
 use Rattle.reading.specs.declared.state.Stage.{Stage}
 use Rattle.reading.specs.declared.state.Stage.TheVariants.{Start, Problem, Format, Sized, Block as InBlock, Matrix}
 use Rattle.reading.specs.declared.state.State.{State}
+use Rattle.reading.specs.Bindings.{level_at, quantifier_at, levels_of, quantifiers_of}
 use Rattle.reading.specs.Laid.{padded, all_codes, running}
 
--- the parts of a draft
+-- the parts of a draft; at the stage of a block, whether it has no variable yet
 abbrev pub stage_of : Draft → Stage
 stage_of nothing = Start
 stage_of problem = Problem
 stage_of format = Format
 stage_of (sized n) = Sized
-stage_of (binding n m bs b) = InBlock
+stage_of (binding n m bs b) = InBlock (length b.variables == 0)
 stage_of (matrix n m bs Cs C) = Matrix
 
 abbrev pub n_of : Draft → ℕ
@@ -44,15 +45,6 @@ blocks_of (sized n) = []
 blocks_of (binding n m bs b) = b ∷ bs
 blocks_of (matrix n m bs Cs C) = bs
 
--- the latest block has no variable; said of a block that has not ended
-abbrev pub vacant_in : Draft → Bool
-vacant_in nothing = false
-vacant_in problem = false
-vacant_in format = false
-vacant_in (sized n) = false
-vacant_in (binding n m bs b) = length b.variables == 0
-vacant_in (matrix n m bs Cs C) = false
-
 abbrev pub clauses_of : Draft → List (List ℕ)
 clauses_of nothing = []
 clauses_of problem = []
@@ -78,11 +70,10 @@ pub record Stands (d : Draft) (s : State) (literals ends : List ℕ) : Type 0 wh
   pub stage : s.stage ≡ stage_of d
   pub n : s.n ≡ n_of d
   pub m : s.m ≡ m_of d
-  pub levels : (v : ℕ) → slice_index s.levels v ≡ level_in (blocks_of d) v
-  pub quantifiers : (v : ℕ) → slice_index s.quantifiers v ≡ quantifier_in (blocks_of d) v
-  pub blocks : s.blocks ≡ length (blocks_of d)
-  pub latest : s.latest ≡ latest (blocks_of d)
-  pub vacant : s.vacant ≡ vacant_in d
+  pub levels : (v : ℕ) → slice_index (levels_of s.bindings) v ≡ level_in (blocks_of d) v
+  pub quantifiers : (v : ℕ) → slice_index (quantifiers_of s.bindings) v ≡ quantifier_in (blocks_of d) v
+  pub blocks : level_at s.latest ≡ length (blocks_of d)
+  pub latest : quantifier_at s.latest ≡ latest (blocks_of d)
   pub clauses : s.clauses ≡ length (clauses_of d)
   pub count : s.literals ≡ literal_count (clauses_of d) (open_of d)
   pub open_count : s.tail ≡ length (open_of d)
@@ -94,11 +85,8 @@ pub record Fresh (s : State) : Type 0 where
   pub stage : s.stage ≡ Start
   pub n : s.n ≡ 0
   pub m : s.m ≡ 0
-  pub levels : s.levels ≡ replicate 513 0
-  pub quantifiers : s.quantifiers ≡ replicate 513 0
-  pub blocks : s.blocks ≡ 0
-  pub latest : s.latest ≡ 0
-  pub vacant : s.vacant ≡ false
+  pub unbound : s.bindings ≡ replicate 513 None
+  pub latest : s.latest ≡ None
   pub clauses : s.clauses ≡ 0
   pub count : s.literals ≡ 0
   pub open_count : s.tail ≡ 0

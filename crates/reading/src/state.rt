@@ -1,14 +1,17 @@
 // How far a text has been read.
 ghost use Rattle.std.specs.Prelude.{◌≡◌, ◌≤◌, length};
 
+use super::binding::Binding;
+
 // which words have come: none, p, p cnf, p cnf n; then in a block, or behind the blocks that have ended
-#[derive(Clone, Copy)]
+#[derive(Clone, Copy, Debug, PartialEq, Eq)]
 pub enum Stage {
     Start,
     Problem,
     Format,
     Sized,
-    Block,
+    // whether the block has no variable yet
+    Block { vacant: bool },
     Matrix,
 }
 
@@ -18,19 +21,15 @@ pub struct State {
     // the header's two numbers
     pub n: usize,
     pub m: usize,
-    // the level and the quantifier of each variable, 0 where it is unbound
-    pub levels: [u16; 513],
-    pub quantifiers: [u16; 513],
-    // how many blocks have begun, the quantifier of the latest, and whether it has no variable yet
-    pub blocks: u16,
-    pub latest: u16,
-    pub vacant: bool,
+    // the binding of each variable; None where it is unbound
+    pub bindings: [Option<Binding>; 513],
+    // that of the variables of the latest block; None where no block has begun
+    pub latest: Option<Binding>,
     // how many clauses have ended, how many literals stand in all, and how many behind the ended clauses
     pub clauses: usize,
     pub literals: usize,
     pub tail: usize,
-    ghost leveled: { length levels ≡ 513 },
-    ghost quantified: { length quantifiers ≡ 513 },
+    ghost bounded: { length bindings ≡ 513 },
     ghost few: { n ≤ 512 },
     ghost counted: { m ≤ 2048 },
     ghost short: { literals ≤ 16384 },

@@ -1,13 +1,17 @@
 // One word more of a text: the rule that it breaks, or the state with it.
-ghost use Rattle.std.specs.Prelude.{◌≡◌, ℕ, ◌<◌, ◌≤◌, false, List, length, if◌then◌else◌, Some, None, ◌≢◌};
+ghost use Rattle.std.specs.Prelude.{◌≡◌, ℕ, Bool, ◌<◌, ◌≤◌, false, List, length, if◌then◌else◌, Some, None, ◌≢◌, ◌⊎◌};
 ghost use Rattle.grammar.specs.Draft.{Draft};
 ghost use Rattle.grammar.specs.Fault.{fault};
 ghost use Rattle.grammar.specs.Lawful.{Lawful};
 ghost use Rattle.grammar.specs.Next.{Next, sort, size};
+ghost use Rattle.formula.specs.Quantifiers.{quantifier_number};
+ghost use Rattle.reading.specs.Bindings.{levels_of};
 ghost use Rattle.reading.specs.Stands.{Fresh, Stands, Stepped, Steps, StepsIn, sizes, gap, early, full, ended};
 ghost use Rattle.reading.specs.declared.state.Stage.TheVariants.{Start, Problem, Format, Sized, Block, Matrix};
 
+use super::binding::Binding;
 use super::state::{Stage, State};
+use formula::Quantifier;
 use grammar::Rule;
 use words::Token;
 
@@ -20,43 +24,25 @@ impl State {
             stage: Stage::Start,
             n: 0,
             m: 0,
-            levels: [0; 513],
-            quantifiers: [0; 513],
-            blocks: 0,
-            latest: 0,
-            vacant: false,
+            bindings: [None; 513],
+            latest: None,
             clauses: 0,
             literals: 0,
             tail: 0,
         }
     }
 
-    // The first word, p.
-    fn take_problem(&mut self, t: Token) -> Result<(), Rule>
-        requires { self.old.stage ≡ Start }
+    // A word of the header that is no number: p, which comes first, or cnf behind it.
+    fn take_header_word(&mut self, t: Token) -> Result<(), Rule>
+        requires { (self.old.stage ≡ Start) ⊎ (self.old.stage ≡ Problem) }
         ensures { Steps self.old (Some t) result self.new }
     {
-        match t {
-            Token::Problem => {
-                self.stage = Stage::Problem;
-                Ok(())
-            }
-            _ => Err(Rule::Header),
-        }
-    }
-
-    // The second word, cnf.
-    fn take_format(&mut self, t: Token) -> Result<(), Rule>
-        requires { self.old.stage ≡ Problem }
-        ensures { Steps self.old (Some t) result self.new }
-    {
-        match t {
-            Token::Cnf => {
-                self.stage = Stage::Format;
-                Ok(())
-            }
-            _ => Err(Rule::Header),
-        }
+        self.stage = match (self.stage, t) {
+            (Stage::Start, Token::Problem) => Stage::Problem,
+            (Stage::Problem, Token::Cnf) => Stage::Format,
+            _ => return Err(Rule::Header),
+        };
+        Ok(())
     }
 
     // The number of variables.
@@ -65,15 +51,12 @@ impl State {
         ensures { Steps self.old (Some t) result self.new }
     {
         match t {
-            Token::Number(n) => {
-                if n < 1 || n > 512 {
-                    return Err(Rule::Size);
-                }
+            Token::Number(n @ 1..=512) => {
                 self.n = n as usize;
                 self.stage = Stage::Sized;
                 Ok(())
             }
-            Token::Negative(n) if n > 0 => Err(Rule::Size),
+            Token::Number(_) | Token::Negative(1..) => Err(Rule::Size),
             _ => Err(Rule::Header),
         }
     }
@@ -84,82 +67,79 @@ impl State {
         ensures { (d : Draft) (ls es : List ℕ) → length es ≡ room → Lawful (sizes ls es) d → Stands d self.old ls es → Stepped (sizes ls es) d (Some t) result self.new ls es }
     {
         match t {
-            Token::Number(m) => {
-                if m > 2048 || m as usize > room {
-                    return Err(Rule::Size);
-                }
+            Token::Number(m @ 0..=2048) if m as usize <= room => {
                 self.m = m as usize;
                 self.stage = Stage::Matrix;
                 Ok(())
             }
-            Token::Negative(m) if m > 0 => Err(Rule::Size),
+            Token::Number(_) | Token::Negative(1..) => Err(Rule::Size),
             _ => Err(Rule::Header),
         }
     }
 
-    // A word in a block: 0, which ends it, or a variable.
-    fn take_in_block(&mut self, t: Token) -> Result<(), Rule>
-        requires { self.old.stage ≡ Block }
+    // A word in a block that has no variable yet, or has some: 0, which ends the block, or a variable.
+    fn take_in_block(&mut self, vacant: bool, t: Token) -> Result<(), Rule>
+        requires { self.old.stage ≡ Block vacant }
         ensures { Steps self.old (Some t) result self.new }
     {
-        let Token::Number(k) = t else {
-            return Err(Rule::Spelling);
-        };
-        let v = k as usize;
-        if v == 0 {
-            if self.vacant {
-                return Err(Rule::Binding);
+        match t {
+            Token::Number(0) if vacant => Err(Rule::Binding),
+            Token::Number(0) => {
+                self.stage = Stage::Matrix;
+                Ok(())
             }
-            self.stage = Stage::Matrix;
-            return Ok(());
+            Token::Number(v) => self.bind(v as usize),
+            _ => Err(Rule::Spelling),
         }
-        if v > self.n || self.levels[v] != 0 {
+    }
+
+    // The variable v in a block.
+    fn bind(&mut self, v: usize) -> Result<(), Rule>
+        requires { (vacant : Bool) × (self.old.stage ≡ Block vacant) }
+        ensures { (t : Next) → sort t ≡ 4 → size t ≡ v → (v ≢ 0) → Steps self.old t result self.new }
+    {
+        if v > self.n || self.bindings[v].is_some() {
             return Err(Rule::Binding);
         }
-        self.levels[v] = self.blocks;
-        self.quantifiers[v] = self.latest;
-        self.vacant = false;
+        self.bindings[v] = self.latest;
+        self.stage = Stage::Block { vacant: false };
         Ok(())
     }
 
     // A letter behind the blocks that have ended, for the quantifier q.
-    fn open_block(&mut self, q: u16) -> Result<(), Rule>
+    fn open_block(&mut self, q: Quantifier) -> Result<(), Rule>
         requires { self.old.stage ≡ Matrix }
-        ensures { (t : Next) → sort t ≡ 3 → size t ≡ q → Steps self.old t result self.new }
+        ensures { (t : Next) → sort t ≡ 3 → size t ≡ quantifier_number (Some q) → Steps self.old t result self.new }
     {
         if self.clauses > 0 || self.tail > 0 {
             return Err(Rule::Spelling);
         }
-        if q == self.latest {
-            return Err(Rule::Binding);
-        }
-        self.blocks = self.blocks.saturating_add(1); // there are at most 512
-        self.latest = q;
-        self.vacant = true;
-        self.stage = Stage::Block;
+        let latest = self.latest;
+        let level = match latest {
+            Some(b) if b.quantifier == q => return Err(Rule::Binding),
+            Some(b) => b.level.saturating_add(1), // there are at most 512 blocks
+            None => 1,
+        };
+        self.latest = Some(Binding {
+            level,
+            quantifier: q,
+        });
+        self.stage = Stage::Block { vacant: true };
         Ok(())
     }
 
     // Some variable is unbound.
     fn has_gap(&self) -> bool
-        ensures { result ≡ gap self.now.levels self.now.n }
+        ensures { result ≡ gap (levels_of self.now.bindings) self.now.n }
     {
-        for v in 1..self.n + 1 {
-            if self.levels[v] == 0 {
-                return true;
-            }
-        }
-        false
+        self.bindings[1..=self.n].contains(&None)
     }
 
     // No word of a clause has come, and some variable is unbound.
     fn is_early(&self) -> bool
         ensures { (d : Draft) (ls es : List ℕ) → Stands d self.now ls es → result ≡ early d }
     {
-        if self.clauses > 0 || self.tail > 0 {
-            return false;
-        }
-        self.has_gap()
+        self.clauses == 0 && self.tail == 0 && self.has_gap()
     }
 
     // There is no place for a literal more, where so many cells are given.
@@ -193,10 +173,8 @@ impl State {
         ensures { (t : Next) → sort t ≡ (if negated then 5 else 4) → size t ≡ v → (v ≢ 0) → (es : List ℕ) → StepsIn self.old cells.old es t result self.new cells.new es }
     {
         if self.clauses >= self.m {
-            if self.is_early() {
-                return Err(Rule::Binding);
-            }
-            return Err(Rule::Tally);
+            let early = self.is_early();
+            return Err(if early { Rule::Binding } else { Rule::Tally });
         }
         if self.is_full(cells.len()) {
             return Err(Rule::Size);
@@ -204,7 +182,7 @@ impl State {
         if self.is_early() || v > self.n {
             return Err(Rule::Binding);
         }
-        let code = if negated { 2 * v + 1 } else { 2 * v };
+        let code = 2 * v + usize::from(negated);
         cells[self.literals] = code as u16;
         self.literals += 1;
         self.tail += 1;
@@ -217,21 +195,11 @@ impl State {
         ensures { StepsIn self.old cells.old ends.old (Some t) result self.new cells.new ends.new }
     {
         match t {
-            Token::Exists => self.open_block(1),
-            Token::Forall => self.open_block(2),
-            Token::Number(v) => {
-                if v == 0 {
-                    self.end_clause(ends)
-                } else {
-                    self.take_literal(v as usize, false, cells)
-                }
-            }
-            Token::Negative(v) => {
-                if v == 0 {
-                    return Err(Rule::Spelling);
-                }
-                self.take_literal(v as usize, true, cells)
-            }
+            Token::Exists => self.open_block(Quantifier::Exists),
+            Token::Forall => self.open_block(Quantifier::Forall),
+            Token::Number(0) => self.end_clause(ends),
+            Token::Number(v) => self.take_literal(v as usize, false, cells),
+            Token::Negative(v @ 1..) => self.take_literal(v as usize, true, cells),
             _ => Err(Rule::Spelling),
         }
     }
@@ -241,11 +209,10 @@ impl State {
         ensures { StepsIn self.old cells.old ends.old (Some t) result self.new cells.new ends.new }
     {
         match self.stage {
-            Stage::Start => self.take_problem(t),
-            Stage::Problem => self.take_format(t),
+            Stage::Start | Stage::Problem => self.take_header_word(t),
             Stage::Format => self.take_variable_count(t),
             Stage::Sized => self.take_clause_count(t, ends.len()),
-            Stage::Block => self.take_in_block(t),
+            Stage::Block { vacant } => self.take_in_block(vacant, t),
             Stage::Matrix => self.take_in_matrix(t, cells, ends),
         }
     }
@@ -255,17 +222,10 @@ impl State {
         ensures { (d : Draft) (ls es : List ℕ) → Stands d self.now ls es → result ≡ ended (fault (sizes ls es) d None) }
     {
         match self.stage {
-            Stage::Block => Err(Rule::Tally),
-            Stage::Matrix => {
-                let early = self.is_early();
-                if early {
-                    Err(Rule::Binding)
-                } else if self.clauses == self.m && self.tail == 0 {
-                    Ok(())
-                } else {
-                    Err(Rule::Tally)
-                }
-            }
+            Stage::Block { .. } => Err(Rule::Tally),
+            Stage::Matrix if self.is_early() => Err(Rule::Binding),
+            Stage::Matrix if self.clauses == self.m && self.tail == 0 => Ok(()),
+            Stage::Matrix => Err(Rule::Tally),
             _ => Err(Rule::Header),
         }
     }

@@ -4,41 +4,20 @@
 
 use cells::CellShelf;
 use claims::make_claims;
+use posting::{CLAUSES, LITERALS, LONGEST, bytes_of};
 use printing::print_fault;
-use std::alloc::Global;
-use std::{fs, io};
+use std::io;
 use text::Table;
 
 mod claims;
 mod printing;
 
-// the longest text that is read
-const LONGEST: usize = 65536;
-
-// cells for every literal and every clause, and for four lines of 512 literals each
-const LITERALS: usize = 16384;
-
-const CLAUSES: usize = 2048;
-
+// cells for four lines of 512 literals each
 const LINES: usize = 2052;
-
-// The bytes of a file; none where there is no such file.
-fn bytes_of(rt: &HostRuntime, heap: Global, path: &str) -> io::Result<Vec<u8>> {
-    match fs::read(rt, path) {
-        Ok(bytes) => Ok(bytes),
-        Err(e) => {
-            if e.kind() == io::ErrorKind::NotFound {
-                Ok(Vec::new(heap))
-            } else {
-                Err(e)
-            }
-        }
-    }
-}
 
 fn main(rt: HostRuntime) -> io::Result<()> {
     let heap = rt.alloc();
-    let text = bytes_of(&rt, heap, "formula.qdimacs")?;
+    let text = bytes_of(&rt, "formula.qdimacs")?;
     if text.len() > LONGEST {
         return println!(rt; "file too long");
     }

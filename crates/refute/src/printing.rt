@@ -12,24 +12,7 @@ pub(crate) fn print_claim(
 ) -> io::Result<()> {
     match answer {
         Ok(line) => println!(rt; "{claim}: line {line}"),
-        Err(refusal) => {
-            let (number, name) = named(refusal);
-            println!(rt; "{claim}: refused {number} {name}")
-        }
-    }
-}
-
-// The number of a refusal, and its name.
-fn named(refusal: Refusal) -> (usize, &'static str) {
-    match refusal {
-        Refusal::Closed => (31, "closed"),
-        Refusal::Absent => (32, "absent"),
-        Refusal::Tautology => (33, "tautology"),
-        Refusal::Pivot => (34, "pivot"),
-        Refusal::Reduction => (35, "reduction"),
-        Refusal::Level => (36, "level"),
-        Refusal::Asymmetry => (37, "asymmetry"),
-        Refusal::Full => (38, "full"),
+        Err(refusal) => println!(rt; "{claim}: refused {} {refusal}", refusal.number()),
     }
 }
 
@@ -45,5 +28,5 @@ pub(crate) fn print_verdict(rt: &HostRuntime, verdict: Verdict) -> io::Result<()
 pub(crate) fn print_fault(rt: &HostRuntime, fault: TextFault) -> io::Result<()> {
     let mut out = [0u8; 64];
     let len = writer::write_refusal(fault, &mut out).unwrap();
-    rt.stdout().write_all(&out[0..len])
+    rt.stdout().write_all(&out[..len])
 }

@@ -1,7 +1,8 @@
 -- How long the line of a report can be.
-use Rattle.std.specs.Prelude.{◌≡◌, ℕ, ◌^◌, ◌<◌, ◌≤◌, true, List, length, is_ok, IfOk, Result}
+use Rattle.std.specs.Prelude.{ℕ, ◌^◌, ◌<◌, ◌≤◌, List, length, Result}
 use Rattle.faults.specs.Faults.{fault_byte, fault_lines}
 use Rattle.writer.specs.declared.fault.WriteFault.{WriteFault}
+use Rattle.writer.specs.Into.{RoomFor}
 use Rattle.reports.specs.declared.report.Report.{Report}
 use Rattle.reports.specs.declared.report.Report.TheVariants.{Refuted, Open, Refused, TooLong}
 use Rattle.reports.specs.Lines.{report_line}
@@ -23,4 +24,4 @@ ReportIsShort = (report : Report) → InRange report → length (report_line rep
 
 -- a buffer as long as a line can be is long enough; what is written lies within the buffer
 abbrev pub Room : List ℕ → Result ℕ WriteFault → Type 0
-Room out r = (longest ≤ length out → is_ok r ≡ true) × IfOk r (λ len. len ≤ length out)
+Room = RoomFor longest

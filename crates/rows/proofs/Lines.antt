@@ -1,52 +1,64 @@
--- The clauses in the first rows: how many, each of them, one more, and what they owe to the words.
-use Rattle.std.proofs.Common.{◌≡◌, ℕ, ◌+◌, ◌*◌, ◌<◌, ◌≤◌, List, [], ◌∷◌, ◌++◌, length, get_or, drop, sym, ap, ◌∙◌, arith}
-use Rattle.std.proofs.lemmas.List.FromFn.{length-map-range_with_len, get_or-map-range_with_len, map-range_with_len_more}
-use Rattle.std.proofs.lemmas.List.{same_lists, ext_get_or, get_or-take, get_or-drop, length-take, length-drop}
+-- One row more: its clause is the last, and those before are as they were.
+use borrow.Rule.Slice.PartMut.{put_mid}
+use Rattle.std.proofs.Common.{rules, ◌≡◌, ℕ, zero, suc, ◌+◌, ◌-◌, ◌*◌, ◌/◌, ◌<◌, ◌≤◌, List, [], ◌∷◌, ◌++◌, map, length, take, drop, set, sym, ap, ap₂, ◌∙◌, arith, length-take, length-drop}
+use Rattle.std.proofs.lemmas.List.{map-append, take_more_set, take_at, drop_at, drop-append-le, drop-take, drop-drop}
+use Rattle.std.proofs.lemmas.Slice.{overwrites, take-put_mid_below}
+use Rattle.std.specs.List.{AllByRecursion}
+use Rattle.std.specs.Simd.{first_chunks}
+use Rattle.laws.proofs.Lines.{all_append}
+use Rattle.laws.specs.Store.{weights}
 use Rattle.sets.specs.Members.{members}
-use Rattle.rows.specs.Rows.{row, rows}
+use Rattle.rows.specs.Bearing.{weights_rows, chunks_length, rows_length}
+use Rattle.rows.specs.Held.{shelf_in}
+use Rattle.rows.specs.Rows.{NoTautology, rows_in, clauses_in}
+use Rattle.rows.specs.declared.row_shelf.RowShelf.{RowShelf}
 
-module _ (words : List ℕ) (n : ℕ) where
-  -- as many clauses as rows
-  pub rows_length : length (rows words n) ≡ n
-  rows_length = length-map-range_with_len (λ p. members (row words p)) 0 n
+-- as many clauses as rows are counted, and they weigh as much
+pub counted : (s : RowShelf) → length (shelf_in s).kept ≡ s.count
+counted s = rows_length s.words.now s.count s.within
 
-  -- line p is in row p
-  pub rows_at : (p : ℕ) → p < n → get_or (rows words n) p [] ≡ members (row words p)
-  rows_at p h = get_or-map-range_with_len (λ q. members (row words q)) 0 n p p [] h (omega arith)
+pub weighs : (s : RowShelf) → weights (shelf_in s).store (shelf_in s).kept ≡ s.count
+weighs s = weights_rows (length s.words.now / 16) (shelf_in s).kept ∙ counted s
 
-  -- one row more
-  pub rows_more : rows words (n + 1) ≡ rows words n ++ members (row words n) ∷ []
-  rows_more = map-range_with_len_more (λ p. members (row words p)) 0 n n (omega arith)
+-- past the sixteen words before it, a row that is written is written sixteen words earlier
+over_rest : (a : ℕ) (words row : List ℕ) → 16 + a ≤ length words → drop 16 (put_mid (16 + a) 16 words row) ≡ put_mid a 16 (drop 16 words) row
+over_rest a words row within =
+    drop-append-le 16 (take (16 + a) words) (row ++ drop 16 (drop (16 + a) words)) (omega (arith, length-take (16 + a) words))
+    ∙ ap₂ ◌++◌ (drop-take 16 a words) (ap (λ xs. row ++ drop 16 xs) (sym (drop-drop a 16 words)))
 
--- a row has sixteen words
-row_length : (words : List ℕ) (p : ℕ) → 16 * p + 16 ≤ length words → length (row words p) ≡ 16
-row_length words p h = simp (length-take, length-drop) (omega arith)
+-- a row that is written over its words is that row, and the others are as they were
+row_over :
+    (m n : ℕ) (words row : List ℕ) → n < m → 16 * m ≤ length words → length row ≡ 16 →
+    first_chunks 16 m (put_mid (16 * n) 16 words row) ≡ set (first_chunks 16 m words) n row
+row_over zero n words row h within long = elim h [ ]
+row_over (suc m) zero words row h within long =
+    ap₂ ◌∷◌ (take_at row (drop 16 words) 16 long) (ap (first_chunks 16 m) (drop_at row (drop 16 words) 16 long))
+row_over (suc m) (suc n) words row h within long =
+    let next : 16 * suc n ≡ 16 + 16 * n = omega arith in
+    ap₂ ◌∷◌ (take-put_mid_below (16 * suc n) 16 words row 16 (omega arith) (omega arith))
+    (ap (λ a. first_chunks 16 m (drop 16 (put_mid a 16 words row))) next ∙ ap (first_chunks 16 m) (over_rest (16 * n) words row (omega arith))
+    ∙ row_over m n (drop 16 words) row (omega arith) (omega (arith, length-drop 16 words)) long)
 
-row_word : (words : List ℕ) (p k : ℕ) → k < 16 → get_or (row words p) k 0 ≡ get_or words (16 * p + k) 0
-row_word words p k h = get_or-take 16 (drop (16 * p) words) k 0 h ∙ get_or-drop (16 * p) words k 0
+module _ (words row : List ℕ) (n : ℕ) (room : n < length words / 16) (long : length row ≡ 16) where
+  abbrev written : List ℕ
+  written = put_mid (16 * n) (16 * n + 16 - 16 * n) words row
 
--- a row by its words
-pub row_is : (words new : List ℕ) (p : ℕ) → 16 * p + 16 ≤ length words → length new ≡ 16 → ((k : ℕ) → k < 16 → get_or words (16 * p + k) 0 ≡ get_or new k 0) → row words p ≡ new
-row_is words new p within long same =
-    let whole : length (row words p) ≡ 16 = row_length words p within in
-    ext_get_or 0 (row words p) new (whole ∙ sym long) (λ k h. let low : k < 16 = omega arith in row_word words p k low ∙ same k low)
+  -- the words are as many as before
+  pub length_written : length written ≡ length words
+  length_written = search (rules, overwrites)
 
--- words that are alike as far as the first n rows go
-pub record Alike (old words : List ℕ) (n : ℕ) : Type 0 where
-  pub long : length words ≡ length old
-  pub same : (k : ℕ) → k < 16 * n → get_or words k 0 ≡ get_or old k 0
+  -- and their rows are the same but for the one written
+  rows_written : rows_in written ≡ set (rows_in words) n row
+  rows_written =
+      ap (λ l. first_chunks 16 (l / 16) written) length_written
+      ∙ (let sixteen : 16 * n + 16 - 16 * n ≡ 16 = omega arith in ap (λ k. first_chunks 16 (length words / 16) (put_mid (16 * n) k words row)) sixteen)
+      ∙ row_over (length words / 16) n words row room (omega arith) long
 
-module _ (old words : List ℕ) (n : ℕ) (within : 16 * n ≤ length old) (a : Alike old words n) where
-  -- the first rows are the same
-  pub row_same : (p : ℕ) → p < n → row words p ≡ row old p
-  row_same p h =
-      row_is words (row old p) p (omega (arith, a.long)) (row_length old p (omega arith))
-      (λ k low. a.same (16 * p + k) (omega arith) ∙ sym (row_word old p k low))
+  first_rows : take (n + 1) (rows_in written) ≡ take n (rows_in words) ++ row ∷ []
+  first_rows = ap (take (n + 1)) rows_written ∙ take_more_set (rows_in words) n row (omega (arith, chunks_length 16 (length words / 16) words))
 
-  pub rows_same : rows words n ≡ rows old n
-  rows_same =
-      same_lists (rows words n) (rows old n) (rows_length words n ∙ sym (rows_length old n))
-      (λ p d h.
-      let k : p < n = omega (arith, rows_length words n) in
-      get_or-map-range_with_len (λ q. members (row words q)) 0 n p p d k (omega arith) ∙ ap members (row_same p k)
-      ∙ sym (get_or-map-range_with_len (λ q. members (row old q)) 0 n p p d k (omega arith)))
+  pub row_more : clauses_in (rows_in written) (n + 1) ≡ clauses_in (rows_in words) n ++ members row ∷ []
+  row_more = ap (map members) first_rows ∙ map-append members (take n (rows_in words)) (row ∷ [])
+
+  pub proper_more : AllByRecursion NoTautology (take n (rows_in words)) → NoTautology row → AllByRecursion NoTautology (take (n + 1) (rows_in written))
+  proper_more before here = rw first_rows (all_append NoTautology (take n (rows_in words)) (row ∷ []) before (here, tt))

@@ -1,20 +1,20 @@
 // A shelf of rows in lent words.
-ghost use Rattle.std.specs.Prelude.{ℕ, ◌*◌, ◌<◌, ◌≤◌, length};
-ghost use Rattle.calculus.specs.Literals.{Tautological};
-ghost use Rattle.sets.specs.Members.{members};
-ghost use Rattle.rows.specs.Rows.{row};
+ghost use Rattle.std.specs.Prelude.{◌/◌, ◌≤◌, length, take};
+ghost use Rattle.std.specs.List.{AllByRecursion, AllByRecursion-prop};
+ghost use Rattle.rows.specs.Rows.{NoTautology, no_tautology_prop, rows_in};
 
 mod keeping;
 mod lending;
 mod reading;
 mod writing;
 
-// Row p, the sixteen words from 16p on, holds the clause of line p; words past the clauses kept hold anything.
+// A row is sixteen words, and row p holds the clause of line p; words past the clauses kept hold anything.
+// It has no Model: the law `sound` of a shelf is asked of every Value, and a Value of clauses does not bear the invariant with it.
 #[derive(Drop)]
 pub struct RowShelf<'a> {
     words: &'a mut [u64],
     count: usize,
     ghost few: { count ≤ 8192 },
-    ghost within: { 16 * count ≤ length words.now },
-    ghost proper: { (p : ℕ) → p < count → Tautological (members (row words.now p)) → ⊥ },
+    ghost within: { count ≤ length words.now / 16 },
+    ghost proper: { AllByRecursion NoTautology (take count (rows_in words.now)) } by { AllByRecursion-prop NoTautology no_tautology_prop (take count (rows_in words.now)) },
 }

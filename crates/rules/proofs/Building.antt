@@ -1,13 +1,15 @@
--- What a loop over the literals of a clause has put into a set so far, as a sorted list.
-use Rattle.std.proofs.Common.{◌≡◌, ℕ, ◌+◌, ◌*◌, ◌/◌, ◌<◌, ◌≤◌, Bool, true, false, cond, eqb, List, [], ◌∷◌, ◌++◌, map, length, get_or, take, sym, refl, ap, ◌∙◌, subst, append_assoc, append-nil, arith}
-use Rattle.std.specs.List.{AllByRecursion}
+-- What a loop over the literals of a clause has put into a set so far, as a sorted list; and what the literals are taken to.
+use Rattle.std.proofs.Common.{◌≡◌, ℕ, ◌+◌, ◌*◌, ◌/◌, ◌<◌, ◌≤◌, Bool, true, false, not, cond, eqb, Option, None, Some, MatchOption, List, [], ◌∷◌, ◌++◌, map, length, get_or, take, sym, refl, ap, ◌∙◌, subst, append_assoc, append-nil, arith}
+use Rattle.std.specs.Bool.{then_some}
+use Rattle.std.specs.List.{AllByRecursion, filter_map, cons_option}
 use Rattle.std.proofs.ByRecursion.{All-get_or}
-use Rattle.std.proofs.lemmas.List.{take_more, take_all, map_push}
-use Rattle.std.proofs.lemmas.Bool.{eqb-true, eqb-false, eq-eqb, ne_eqb, cond-true, cond-false, cond_both}
+use Rattle.std.proofs.lemmas.List.{take_more, take_all}
+use Rattle.std.proofs.lemmas.List.Elements.{filter_map-append}
+use Rattle.std.proofs.lemmas.Bool.{eqb-true, eqb-false}
 use Rattle.calculus.specs.Literals.{var}
 use Rattle.calculus.specs.Meaning.{Code}
 use Rattle.laws.specs.Cards.{Card, act}
-use Rattle.laws.specs.Claims.{insert, sorted, without, reduced}
+use Rattle.laws.specs.Claims.{insert, sorted, without}
 use Rattle.sets.specs.Members.{members}
 use Rattle.sets.proofs.Sorted.{sorted_members, sorted_push}
 use Rattle.shelf.specs.Proper.{Proper, proper_out}
@@ -16,86 +18,94 @@ use Rattle.shelf.specs.Proper.{Proper, proper_out}
 pub code_at : (C xs : List ℕ) (i : ℕ) → ∥ Proper C ∥₁ → xs ≡ C → i < length xs → Code 512 (get_or xs i 0)
 code_at C xs i p e h = All-get_or (Code 512) xs i 0 h (subst (AllByRecursion (Code 512)) (sym e) (proper_out p).codes)
 
--- where W is made of the U of each element, one element more
-module _ (W U : List ℕ → List ℕ) (made : (xs : List ℕ) (x : ℕ) → W (xs ++ x ∷ []) ≡ W xs ++ U (x ∷ [])) (xs ms : List ℕ) (i : ℕ) (so_far : ms ≡ sorted (W (take i xs))) where
-  more : i < length xs → W (take (i + 1) xs) ≡ W (take i xs) ++ U (get_or xs i 0 ∷ [])
-  more h = ap W (take_more xs i 0 h) ∙ made (take i xs) (get_or xs i 0)
+-- to a set, what h takes the literals to, one literal after the other
 
-  passed : i < length xs → U (get_or xs i 0 ∷ []) ≡ [] → ms ≡ sorted (W (take (i + 1) xs))
-  passed h e = so_far ∙ ap sorted (sym (more h ∙ ap (λ ys. W (take i xs) ++ ys) e ∙ append-nil (W (take i xs))))
+module _ (h : ℕ → Option ℕ) where
+  pub taken_none : (words : List ℕ) → members words ≡ sorted (members words ++ [])
+  taken_none words = sym (ap sorted (append-nil (members words)) ∙ sorted_members words)
 
-  added : (ms' : List ℕ) (y : ℕ) → i < length xs → U (get_or xs i 0 ∷ []) ≡ y ∷ [] → ms' ≡ insert y ms → ms' ≡ sorted (W (take (i + 1) xs))
-  added ms' y h e f = f ∙ ap (insert y) so_far ∙ sorted_push (W (take i xs)) y ∙ ap sorted (sym (more h ∙ ap (λ ys. W (take i xs) ++ ys) e))
+  module _ (S xs ms : List ℕ) (i : ℕ) (so_far : ms ≡ sorted (S ++ filter_map h (take i xs))) where
+    more : i < length xs → S ++ filter_map h (take (i + 1) xs) ≡ (S ++ filter_map h (take i xs)) ++ filter_map h (get_or xs i 0 ∷ [])
+    more lt =
+        ap (λ ys. S ++ ys) (ap (filter_map h) (take_more xs i 0 lt) ∙ filter_map-append h (take i xs) (get_or xs i 0 ∷ []))
+        ∙ sym (append_assoc S (filter_map h (take i xs)) (filter_map h (get_or xs i 0 ∷ [])))
 
-  finished : (C : List ℕ) → xs ≡ C → length xs ≤ i → ms ≡ sorted (W C)
-  finished C e h = so_far ∙ ap (λ ys. sorted (W ys)) (take_all i xs h ∙ e)
+    pub taken_passed : i < length xs → None ≡ h (get_or xs i 0) → ms ≡ sorted (S ++ filter_map h (take (i + 1) xs))
+    taken_passed lt e =
+        so_far
+        ∙ ap sorted
+        (sym (more lt ∙ ap (λ (o : Option ℕ). (S ++ filter_map h (take i xs)) ++ cons_option o []) (sym e) ∙ append-nil (S ++ filter_map h (take i xs))))
 
-join : (b : Bool) (x : ℕ) (us vs ws : List ℕ) → ws ≡ us ++ vs → cond b ws (x ∷ ws) ≡ cond b us (x ∷ us) ++ vs
-join true x us vs ws e = e
-join false x us vs ws e = ap (λ zs. x ∷ zs) e
+    pub taken_added : (y : ℕ) (ms' : List ℕ) → i < length xs → Some y ≡ h (get_or xs i 0) → ms' ≡ insert y ms → ms' ≡ sorted (S ++ filter_map h (take (i + 1) xs))
+    taken_added y ms' lt e f =
+        f ∙ ap (insert y) so_far ∙ sorted_push (S ++ filter_map h (take i xs)) y
+        ∙ ap sorted (sym (more lt ∙ ap (λ (o : Option ℕ). (S ++ filter_map h (take i xs)) ++ cons_option o []) (sym e)))
 
-without_append : (l : ℕ) (xs ys : List ℕ) → without l (xs ++ ys) ≡ without l xs ++ without l ys
-without_append l [] ys = refl
-without_append l (x ∷ xs) ys = join (eqb l x) x (without l xs) (without l ys) (without l (xs ++ ys)) (without_append l xs ys)
+    pub taken_all : (C : List ℕ) → xs ≡ C → length xs ≤ i → ms ≡ sorted (S ++ filter_map h C)
+    taken_all C e end = so_far ∙ ap (λ ys. sorted (S ++ filter_map h ys)) (take_all i xs end ∙ e)
 
-without_it : (l x : ℕ) → true ≡ eqb l x → without l (x ∷ []) ≡ []
-without_it l x e = cond-true (eqb l x) [] (x ∷ []) (sym e)
+-- to the empty set
+pub from_none : (S ys zs ms : List ℕ) → S ≡ [] → ms ≡ sorted (S ++ ys) → ys ≡ zs → ms ≡ sorted zs
+from_none S ys zs ms e f g = f ∙ ap (λ xs. sorted (xs ++ ys)) e ∙ ap sorted g
 
-without_other : (l x : ℕ) → false ≡ eqb l x → without l (x ∷ []) ≡ x ∷ []
-without_other l x e = cond-false (eqb l x) [] (x ∷ []) (sym e)
+-- a literal that is passed on where a test says so
+pub passed_on : (b : Bool) (x : ℕ) (r : Option ℕ) → Code 512 x → r ≡ then_some b x → (r ≡ then_some b x) × MatchOption r (Unit {0}) (Code 512)
+passed_on b x r code e = (e, subst (λ (o : Option ℕ). MatchOption o (Unit {0}) (Code 512)) (sym e) (a_literal b))
+  where
+    a_literal : (b : Bool) → MatchOption (then_some b x) (Unit {0}) (Code 512)
+    a_literal true = code
+    a_literal false = tt
 
--- to the set S, all but the literal l
+-- all but the literal l
 
-pub others_none : (words : List ℕ) → members words ≡ sorted (members words ++ [])
-others_none words = sym (ap sorted (append-nil (members words)) ∙ sorted_members words)
+abbrev pub other : ℕ → ℕ → Option ℕ
+other l x = then_some (not (eqb l x)) x
 
-others_made : (S : List ℕ) (l : ℕ) (xs : List ℕ) (x : ℕ) → S ++ without l (xs ++ x ∷ []) ≡ (S ++ without l xs) ++ without l (x ∷ [])
-others_made S l xs x = ap (λ ys. S ++ ys) (without_append l xs (x ∷ [])) ∙ sym (append_assoc S (without l xs) (without l (x ∷ [])))
-
-module _ (S : List ℕ) (l : ℕ) (xs ms : List ℕ) (i : ℕ) (so_far : ms ≡ sorted (S ++ without l (take i xs))) where
-  pub others_passed : i < length xs → true ≡ eqb l (get_or xs i 0) → ms ≡ sorted (S ++ without l (take (i + 1) xs))
-  others_passed h e = passed (λ ys. S ++ without l ys) (without l) (others_made S l) xs ms i so_far h (without_it l (get_or xs i 0) e)
-
-  pub others_added : (ms' : List ℕ) → i < length xs → false ≡ eqb l (get_or xs i 0) → ms' ≡ insert (get_or xs i 0) ms → ms' ≡ sorted (S ++ without l (take (i + 1) xs))
-  others_added ms' h e f = added (λ ys. S ++ without l ys) (without l) (others_made S l) xs ms i so_far ms' (get_or xs i 0) h (without_other l (get_or xs i 0) e) f
-
-  pub others_finished : (C : List ℕ) → xs ≡ C → length xs ≤ i → ms ≡ sorted (S ++ without l C)
-  others_finished C e h = finished (λ ys. S ++ without l ys) (without l) (others_made S l) xs ms i so_far C e h
+pub others : (l : ℕ) (xs : List ℕ) → filter_map (other l) xs ≡ without l xs
+others l [] = refl
+others l (x ∷ xs) = kept (eqb l x) (others l xs)
+  where
+    kept : (b : Bool) → filter_map (other l) xs ≡ without l xs → cons_option (then_some (not b) x) (filter_map (other l) xs) ≡ cond b (without l xs) (x ∷ without l xs)
+    kept true e = e
+    kept false e = ap (λ ys. x ∷ ys) e
 
 -- all but the literals of v
 
-abbrev rest : ℕ → List ℕ → List ℕ
-rest v ys = without (2 * v) (without (2 * v + 1) ys)
+abbrev pub off : ℕ → ℕ → Option ℕ
+off v x = then_some (not (eqb (var x) v)) x
 
-rest_made : (v : ℕ) (xs : List ℕ) (x : ℕ) → rest v (xs ++ x ∷ []) ≡ rest v xs ++ rest v (x ∷ [])
-rest_made v xs x = ap (without (2 * v)) (without_append (2 * v + 1) xs (x ∷ [])) ∙ without_append (2 * v) (without (2 * v + 1) xs) (without (2 * v + 1) (x ∷ []))
+pub rest : (v : ℕ) (xs : List ℕ) → filter_map (off v) xs ≡ without (2 * v) (without (2 * v + 1) xs)
+rest v [] = refl
+rest v (x ∷ xs) =
+    kept (eqb (var x) v) (eqb (2 * v + 1) x) (eqb (2 * v) x) refl refl refl (rest v xs) ∙ sym (split (eqb (2 * v + 1) x))
+  where
+    front : List ℕ
+    front = without (2 * v) (without (2 * v + 1) xs)
 
-rest_none : (v x : ℕ) → true ≡ eqb (var x) v → rest v (x ∷ []) ≡ []
-rest_none v x e =
-    cond_both (eqb (2 * v + 1) x) [] (x ∷ []) (λ ys. without (2 * v) ys ≡ []) (λ f. refl)
-    (λ f. let n : 2 * v + 1 ≡ x → ⊥ = eqb-false (2 * v + 1) x f in without_it (2 * v) x (sym (eq-eqb (2 * v) x (omega (arith, eqb-true (var x) v (sym e))))))
+    split : (b : Bool) → without (2 * v) (cond b (without (2 * v + 1) xs) (x ∷ without (2 * v + 1) xs)) ≡ cond b front (cond (eqb (2 * v) x) front (x ∷ front))
+    split true = refl
+    split false = refl
 
-rest_other : (v x : ℕ) → false ≡ eqb (var x) v → rest v (x ∷ []) ≡ x ∷ []
-rest_other v x e =
-    let n : x / 2 ≡ v → ⊥ = eqb-false (var x) v (sym e) in
-    ap (without (2 * v)) (without_other (2 * v + 1) x (sym (ne_eqb (2 * v + 1) x (λ k. n (omega arith)))))
-    ∙ without_other (2 * v) x (sym (ne_eqb (2 * v) x (λ k. n (omega arith))))
-
-module _ (v : ℕ) (xs ms : List ℕ) (i : ℕ) (so_far : ms ≡ reduced (take i xs) v) where
-  pub reduced_passed : i < length xs → true ≡ eqb (var (get_or xs i 0)) v → ms ≡ reduced (take (i + 1) xs) v
-  reduced_passed h e = passed (rest v) (rest v) (rest_made v) xs ms i so_far h (rest_none v (get_or xs i 0) e)
-
-  pub reduced_added : (ms' : List ℕ) → i < length xs → false ≡ eqb (var (get_or xs i 0)) v → ms' ≡ insert (get_or xs i 0) ms → ms' ≡ reduced (take (i + 1) xs) v
-  reduced_added ms' h e f = added (rest v) (rest v) (rest_made v) xs ms i so_far ms' (get_or xs i 0) h (rest_other v (get_or xs i 0) e) f
-
-  pub reduced_finished : (C : List ℕ) → xs ≡ C → length xs ≤ i → ms ≡ reduced C v
-  reduced_finished C e h = finished (rest v) (rest v) (rest_made v) xs ms i so_far C e h
+    kept :
+        (over negation plain : Bool) → eqb (var x) v ≡ over → eqb (2 * v + 1) x ≡ negation → eqb (2 * v) x ≡ plain → filter_map (off v) xs ≡ front →
+        cons_option (then_some (not over) x) (filter_map (off v) xs) ≡ cond negation front (cond plain front (x ∷ front))
+    kept true true b e f g h = h
+    kept true false true e f g h = h
+    kept true false false e f g h =
+        absurd (let p : x / 2 ≡ v = eqb-true (var x) v e in eqb-false (2 * v + 1) x f (let n : 2 * v ≡ x → ⊥ = eqb-false (2 * v) x g in omega arith))
+    kept false true b e f g h = absurd (eqb-false (var x) v e (let p : 2 * v + 1 ≡ x = eqb-true (2 * v + 1) x f in omega arith))
+    kept false false true e f g h = absurd (eqb-false (var x) v e (let p : 2 * v ≡ x = eqb-true (2 * v) x g in omega arith))
+    kept false false false e f g h = ap (λ ys. x ∷ ys) h
 
 -- the images of all
 
-module _ (card : Card) (xs ms : List ℕ) (i : ℕ) (so_far : ms ≡ sorted (map (act card) (take i xs))) where
-  pub image_added : (ms' : List ℕ) → i < length xs → ms' ≡ insert (act card (get_or xs i 0)) ms → ms' ≡ sorted (map (act card) (take (i + 1) xs))
-  image_added ms' h f = added (map (act card)) (map (act card)) (map_push (act card)) xs ms i so_far ms' (act card (get_or xs i 0)) h refl f
+abbrev pub imaged : Card → ℕ → Option ℕ
+imaged card x = Some (act card x)
 
-  pub image_finished : (C : List ℕ) → xs ≡ C → length xs ≤ i → ms ≡ sorted (map (act card) C)
-  image_finished C e h = finished (map (act card)) (map (act card)) (map_push (act card)) xs ms i so_far C e h
+pub taken_on :
+    (card : Card) (x : ℕ) (r : Option ℕ) → Code 512 (act card x) → r ≡ imaged card x → (r ≡ imaged card x) × MatchOption r (Unit {0}) (Code 512)
+taken_on card x r code e = (e, subst (λ (o : Option ℕ). MatchOption o (Unit {0}) (Code 512)) (sym e) code)
+
+pub images : (card : Card) (xs : List ℕ) → filter_map (imaged card) xs ≡ map (act card) xs
+images card [] = refl
+images card (x ∷ xs) = ap (λ ys. act card x ∷ ys) (images card xs)

@@ -1,2 +1,3 @@
 pub mod Literal
 pub mod Depth
+pub mod Taking

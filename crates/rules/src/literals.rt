@@ -1,43 +1,54 @@
 // Literals by variable and sign, in a clause.
-ghost use Rattle.std.specs.Prelude.{◌≡◌, true, false, ◌||◌, ◌⊎◌, ◌↔◌, ◌==◌};
+ghost use Rattle.std.specs.Prelude.{◌≡◌, ◌+◌, ◌*◌, true, ◌||◌, ◌⊎◌, ◌↔◌, ◌==◌};
 ghost use Rattle.calculus.specs.Literals.{var};
 ghost use Rattle.calculus.specs.Sets.{◌∈◌, has};
-ghost use Rattle.rules.specs.Literal.{literal};
+ghost use Rattle.rules.specs.Literal.{code_of};
 
 use shelf::Clause;
+
+// A variable, or its negation.
+#[derive(Clone, Copy)]
+pub(crate) struct Literal {
+    pub(crate) variable: usize,
+    pub(crate) negated: bool,
+}
+
+impl Literal {
+    // Whether the code is that of the literal.
+    pub(crate) fn is(self, code: u16) -> bool
+        ensures { result ≡ (code_of self == code) }
+    {
+        is_over(code, self.variable) && (code % 2 == 1) == self.negated
+    }
+}
 
 // Whether the code is that of v with some sign.
 pub(crate) fn is_over(code: u16, v: usize) -> bool
     ensures { result ≡ (var code == v) }
 {
-    code as usize / 2 == v
+    usize::from(code) / 2 == v
 }
 
-// Whether the code is that of v, or of its negation where that is meant.
-pub(crate) fn is_literal(code: u16, v: usize, negated: bool) -> bool
-    ensures { result ≡ (literal v negated == code) }
+// Whether the clause has the literal.
+pub(crate) fn holds(clause: Clause<'_>, literal: Literal) -> bool
+    ensures test { result ≡ has (code_of literal) clause.entry.codes.now }
+    ensures meaning { (result ≡ true) ↔ (code_of literal ∈ clause.entry.codes.now) }
 {
-    is_over(code, v) && (code % 2 == 1) == negated
-}
-
-// Whether the clause has v, or its negation where that is meant.
-pub(crate) fn holds(clause: Clause<'_>, v: usize, negated: bool) -> bool
-    ensures test { result ≡ has (literal v negated) clause.entry.codes.now }
-    ensures meaning { (result ≡ true) ↔ (literal v negated ∈ clause.entry.codes.now) }
-{
-    let codes = clause.codes();
-    for code in codes {
-        if is_literal(*code, v, negated) {
-            return true;
-        }
-    }
-    false
+    clause.codes().iter().any(|code| literal.is(*code))
 }
 
 // Whether the clause has v with some sign.
 pub(crate) fn holds_variable(clause: Clause<'_>, v: usize) -> bool
-    ensures test { result ≡ (has (literal v false) clause.entry.codes.now || has (literal v true) clause.entry.codes.now) }
-    ensures meaning { (result ≡ true) ↔ ((literal v false ∈ clause.entry.codes.now) ⊎ (literal v true ∈ clause.entry.codes.now)) }
+    ensures test { result ≡ (has (2 * v) clause.entry.codes.now || has (2 * v + 1) clause.entry.codes.now) }
+    ensures meaning { (result ≡ true) ↔ ((2 * v ∈ clause.entry.codes.now) ⊎ (2 * v + 1 ∈ clause.entry.codes.now)) }
 {
-    holds(clause, v, false) || holds(clause, v, true)
+    let plain = Literal {
+        variable: v,
+        negated: false,
+    };
+    let negated = Literal {
+        variable: v,
+        negated: true,
+    };
+    holds(clause, plain) || holds(clause, negated)
 }

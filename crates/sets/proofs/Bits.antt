@@ -1,8 +1,8 @@
 -- Bits of words: which ones a disjunction and a conjunction have, and that the bits make the word.
-use Rattle.std.proofs.Common.{◌≡◌, ℕ, zero, suc, ◌+◌, ◌-◌, ◌*◌, ◌/◌, ◌%◌, ◌^◌, ◌<◌, true, eqb, List, length, get_or, sym, refl, ap, ◌∙◌, ap₂, inl, inr, ⊎_elim, one-mul, zero-mul, one-add, arith, lit<, get_or-set_other, get_or-set_same}
+use Rattle.std.proofs.Common.{◌≡◌, ℕ, zero, suc, ◌+◌, ◌-◌, ◌*◌, ◌/◌, ◌%◌, ◌^◌, ◌<◌, true, eqb, List, length, get_or, set, sym, refl, ap, ◌∙◌, ap₂, inl, inr, ⊎_elim, one-mul, zero-mul, one-add, arith, lit<, get_or-set_other, get_or-set_same}
 use native.Mathlib.Nat.{zero-div, div-eq_of_lt}
 use lib.Bits.{bit_and, bit_or, and_shr, and_mod, or_shr, or_mod, or_zero_r, shifted_even}
-use Rattle.std.proofs.lemmas.Nat.{pow-add, shl-shr, pow_below, mod_below, mod-pow-add}
+use Rattle.std.proofs.lemmas.Nat.{pow-add, shl-shr, pow_below, mod_below, mod-pow-add, or_lt}
 use Rattle.std.proofs.lemmas.Bool.{cases_eq, cases_order, eq-eqb, ne_eqb, eqb-true, eqb-false}
 use Rattle.sets.specs.Members.{bit, has_bit}
 use Rattle.sets.specs.Steps.{with_bit}
@@ -77,6 +77,14 @@ or_same w j = or_bits w (2 ^ j) j ∙ ap (bit_or (bit w j)) (power_same j) ∙ o
 
 or_other : (w j i : ℕ) → (i ≡ j → ⊥) → bit (bit_or w (2 ^ j)) i ≡ bit w i
 or_other w j i n = or_bits w (2 ^ j) i ∙ ap (bit_or (bit w i)) (power_other j i n) ∙ or_zero_r (bit w i)
+
+-- a word that takes bits of 64 has 64 bits
+pub small_more : (words : List ℕ) → ((k : ℕ) → get_or words k 0 < 2 ^ 64) → (i x : ℕ) → x < 2 ^ 64 → i < length words
+    → (k : ℕ) → get_or (set words i (bit_or (get_or words i 0) x)) k 0 < 2 ^ 64
+small_more words small i x h lt k =
+    ⊎_elim
+    (λ e. omega (arith, get_or-set_same words i (bit_or (get_or words i 0) x) 0 lt, ap (λ (j : ℕ). get_or (set words i (bit_or (get_or words i 0) x)) j 0) e, or_lt 64 (get_or words i 0) x (small i) h))
+    (λ n. omega (arith, get_or-set_other words i k (bit_or (get_or words i 0) x) 0 n, small k)) (cases_eq k i)
 
 module _ (words : List ℕ) where
   -- the bit of a literal, by its word and its place there

@@ -1,9 +1,11 @@
 -- The variables that a word holds with both signs.
-use Rattle.std.proofs.Common.{◌≡◌, ℕ, zero, suc, ◌+◌, ◌-◌, ◌*◌, ◌/◌, ◌%◌, ◌^◌, ◌<◌, ◌≤◌, true, false, not, eqb, List, get_or, sym, refl, ap, ◌∙◌, subst, ap₂, ⊎_elim, mod-eq_of_lt, arith}
+use Rattle.std.proofs.Common.{◌≡◌, ℕ, zero, suc, ◌+◌, ◌-◌, ◌*◌, ◌/◌, ◌%◌, ◌^◌, ◌<◌, ◌≤◌, Bool, true, not, ◌||◌, eqb, ◌↔◌, List, [], ◌∷◌, length, get_or, sym, refl, ap, ◌∙◌, subst, ap₂, ⊎_elim, mod-eq_of_lt, arith}
 use lib.Bits.{bit_and, and_le_l}
-use Rattle.std.specs.List.{range_with_len}
+use mathlib.Core.Bool.{false≢true}
+use Rattle.std.specs.List.{range_with_len, list_any}
+use Rattle.std.proofs.lemmas.List.Folds.{list_any_at}
 use Rattle.std.proofs.lemmas.Nat.{shr-shr}
-use Rattle.std.proofs.lemmas.Bool.{cases_eq, eq-eqb, eqb-true, eqb-false, not-true, not-false}
+use Rattle.std.proofs.lemmas.Bool.{cases_eq, cases_Bool, eq-eqb, ne_eqb, eqb-true, eqb-false, not-true}
 use Rattle.calculus.specs.Sets.{◌∈◌}
 use Rattle.calculus.specs.Literals.{neg, Tautological}
 use Rattle.laws.proofs.Sets.{neg_is}
@@ -41,6 +43,16 @@ pairs_bits w i =
 -- some two neighbouring bits, of which the first stands at an even place, are both set
 abbrev Pair : ℕ → Type 0
 Pair w = (j : ℕ) × (j < 32) × (bit w (2 * j) ≡ 1) × (bit w (2 * j + 1) ≡ 1)
+
+-- the test of a word
+abbrev pub paired : ℕ → Bool
+paired w = not (eqb (pairs w) 0)
+
+any_at : (p : ℕ → Bool) (xs : List ℕ) → list_any p xs ≡ true → (i : ℕ) × (i < length xs) × (p (get_or xs i 0) ≡ true)
+any_at p [] e = absurd (false≢true e)
+any_at p (x ∷ xs) e =
+    ⊎_elim (λ h. (0, omega arith, h))
+    (λ n. let r : _ × _ × _ = any_at p xs (sym (ap (λ b. b || list_any p xs) n) ∙ e) in (suc r.0, omega (arith, r.1), r.2)) (cases_Bool (p x))
 
 -- no such two bits are set where the test answers 0, and else some are
 no_pair : (w : ℕ) → pairs w ≡ 0 → Pair w → ⊥
@@ -99,11 +111,12 @@ module _ (words : List ℕ) where
       ⊎_elim (λ e. both_in l e.0 a (subst (λ k. k ∈ members words) e.1 b))
       (λ o. both_in (neg l) (omega (arith, o.2)) b (subst (λ k. k ∈ members words) o.1 a)) (neg_is l)
 
-  -- a word in which the test finds some pair, and all words where it finds none
-  pub found : (i : ℕ) → i < 16 → get_or words i 0 < 2 ^ 64 → true ≡ not (eqb (pairs (get_or words i 0)) 0) → Tautological (members words)
-  found i h small e = pair_tautological i h (pair_from (get_or words i 0) small (eqb-false (pairs (get_or words i 0)) 0 (not-true (eqb (pairs (get_or words i 0)) 0) (sym e))))
-
-  pub none_found : ((k : ℕ) → k < 16 → false ≡ not (eqb (pairs (get_or words k 0)) 0)) → Tautological (members words) → ⊥
-  none_found h t =
-      let r : (i : ℕ) × (i < 16) × Pair (get_or words i 0) = tautological_pair t in
-      no_pair (get_or words r.0 0) (eqb-true (pairs (get_or words r.0 0)) 0 (not-false (eqb (pairs (get_or words r.0 0)) 0) (sym (h r.0 r.1)))) r.2
+  -- some word has such a pair exactly if some variable stands with both signs
+  pub any_pair : length words ≡ 16 → ((i : ℕ) → get_or words i 0 < 2 ^ 64) → (list_any paired words ≡ true) ↔ Tautological (members words)
+  any_pair long small = (
+    λ e. let r : (i : ℕ) × (i < length words) × (paired (get_or words i 0) ≡ true) = any_at paired words e in
+        pair_tautological r.0 (omega (arith, long, r.1))
+        (pair_from (get_or words r.0 0) (small r.0) (eqb-false (pairs (get_or words r.0 0)) 0 (not-true (eqb (pairs (get_or words r.0 0)) 0) r.2))),
+    λ t. let r : (i : ℕ) × (i < 16) × Pair (get_or words i 0) = tautological_pair t in
+        list_any_at paired words r.0 0 (omega (arith, long, r.1)) (ap not (ne_eqb (pairs (get_or words r.0 0)) 0 (λ z. no_pair (get_or words r.0 0) z r.2))),
+  )

@@ -1,15 +1,11 @@
 -- What the steps inside do to words and cells.
-use Rattle.std.specs.Prelude.{◌≡◌, ℕ, ◌-◌, ◌/◌, ◌%◌, ◌^◌, ◌<◌, List, length, ◌≢◌, bit_and, bit_or, slice_index, slice_set}
+use Rattle.std.specs.Prelude.{◌≡◌, ℕ, ◌-◌, ◌/◌, ◌%◌, ◌^◌, List, length, bit_and, bit_or, slice_index, slice_set}
 use Rattle.sets.specs.Members.{first_members}
 use Rattle.sets.specs.Laid.{laid}
 
 -- the words with the bit of l set
 abbrev pub with_bit : List ℕ → ℕ → List ℕ
 with_bit words l = slice_set words ((l - 2) / 64) (bit_or (slice_index words ((l - 2) / 64)) (2 ^ ((l - 2) % 64)))
-
--- words i, of 64 bits both, are not the same
-abbrev pub Differ : List ℕ → List ℕ → ℕ → Type 0
-Differ v w i = (slice_index v i < 2 ^ 64) × (slice_index w i < 2 ^ 64) × (slice_index v i ≢ slice_index w i)
 
 -- the bits of a word at even places that are set together with the next one
 abbrev pub pairs : ℕ → ℕ

@@ -3,7 +3,7 @@ use mathlib.Core.HLevel.{Π_prop, ⊥_prop, ×_prop, Unit-prop}
 use Rattle.std.specs.Prelude.{◌≡◌, ℕ, ◌≤◌, List, [], ◌∷◌, length, take}
 use Rattle.std.proofs.Math.Logic.{∥∥₁_elim}
 use Rattle.std.proofs.Math.Bridge.{le_prop}
-use Rattle.std.specs.List.{AllByRecursion}
+use Rattle.std.specs.List.{AllByRecursion, AllByRecursion-prop}
 use Rattle.calculus.specs.Literals.{Tautological}
 use Rattle.calculus.specs.Meaning.{Code}
 use Rattle.laws.specs.Clauses.{Ascending}
@@ -24,13 +24,9 @@ ascending_prop : (C : List ℕ) → IsProp (Ascending C)
 ascending_prop [] = Unit-prop
 ascending_prop (l ∷ ls) = ×_prop (Π_prop (λ k. Π_prop (λ h. le_prop))) (ascending_prop ls)
 
-codes_prop : (C : List ℕ) → IsProp (AllByRecursion (Code 512) C)
-codes_prop [] = Unit-prop
-codes_prop (l ∷ ls) = ×_prop (×_prop le_prop le_prop) (codes_prop ls)
-
 -- a list is such a clause in one way only
 pub proper_prop : (C : List ℕ) → IsProp (Proper C)
-proper_prop C = proper_by (ascending_prop C) (Π_prop (λ t. ⊥_prop)) (codes_prop C)
+proper_prop C = proper_by (ascending_prop C) (Π_prop (λ t. ⊥_prop)) (AllByRecursion-prop (Code 512) (λ l. ×_prop le_prop le_prop) C)
 
 -- a struct holds the fact truncated; this takes it out
 pub proper_out : {C : List ℕ} → ∥ Proper C ∥₁ → Proper C

@@ -2,9 +2,12 @@
 ghost use Rattle.shelf.specs.Proper.{Proper};
 
 mod lent;
+mod listed;
+
+pub use listed::NoClause;
 
 // Literals of the variables 1 to 512, ascending, none with its negation.
-#[derive(Clone, Copy)]
+#[derive(Clone, Copy, Debug, PartialEq, Eq)]
 pub struct Clause<'a> {
     codes: &'a [u16],
     ghost proper: { ∥ Proper codes.now ∥₁ },

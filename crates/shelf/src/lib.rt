@@ -7,9 +7,11 @@ ghost use Rattle.shelf.specs.Space.{SpaceSuffices};
 
 mod clause;
 mod fault;
+mod store;
 
-pub use clause::Clause;
+pub use clause::{Clause, NoClause};
 pub use fault::ShelfFault;
+pub use store::Store;
 
 pub trait Shelf {
     // what the shelf holds, and what it can bear
@@ -59,8 +61,6 @@ impl<'s, S: Shelf> Shelf for &'s mut S {
 }
 
 // From an empty shelf, clauses that there is space for are all kept, as lines 0, 1 and so on.
-pub fn clauses_with_space_are_kept() -> u8
+pub fn clauses_with_space_are_kept()
     ensures { SpaceSuffices }
-{
-    0
-}
+{}

@@ -1,8 +1,8 @@
 // The longest front of a list that is a clause.
-use super::tools::{every_variable, keep, literal, shows};
+use super::tools::{every_variable, keep, shows};
 use cells::CellShelf;
 use rows::RowShelf;
-use shelf::{Clause, Shelf};
+use shelf::{Clause, NoClause, Shelf};
 use std::process::Abort;
 use std::test::Fail;
 
@@ -51,6 +51,15 @@ fn longest(rt: HostRuntime) -> Result<(), Fail> {
     for (list, len) in rows {
         let front = list.get(0..*len).ok_or("too long")?;
         assert_eq!(rt; Clause::front(*list).codes(), front);
+        let whole = Clause::try_from(*list).map(|clause| clause.codes());
+        assert_eq!(rt;
+            whole,
+            if front.len() == list.len() {
+                Ok(front)
+            } else {
+                Err(NoClause)
+            }
+        );
         keeps_front(&rt, &mut CellShelf::over(&mut [7; 5]), *list, front);
         keeps_front(&rt, &mut RowShelf::over(&mut [7; 16]), *list, front);
     }
@@ -64,11 +73,7 @@ fn all(rt: HostRuntime) {
     assert_eq!(rt; Clause::front(&all).codes(), &all[..]);
     for code in [0, 1, 2, 1024, 1025, 1026] {
         let mut list = [code; 513];
-        for (i, cell) in list.iter_mut().enumerate() {
-            if i < 512 {
-                *cell = literal(i);
-            }
-        }
+        list[..512].copy_from_slice(&all);
         assert_eq!(rt; Clause::front(&list).codes(), &all[..]);
     }
 }

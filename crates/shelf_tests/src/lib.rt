@@ -19,3 +19,5 @@ mod memory;
 mod space;
 #[cfg(test)]
 mod tools;
+#[cfg(test)]
+mod words;

@@ -9,12 +9,7 @@ const MAX: usize = usize::MAX;
 
 // Whether the clause is kept so many times, from an empty shelf.
 fn takes<S: Shelf>(shelf: &mut S, clauses: usize, codes: &[u16]) -> bool {
-    for line in 0..clauses {
-        if keep(shelf, codes) != Ok(line) {
-            return false;
-        }
-    }
-    true
+    (0..clauses).all(|line| keep(shelf, codes) == Ok(line))
 }
 
 // Whether so many cells have space for so many clauses of so many literals each.

@@ -1,21 +1,13 @@
 // What a shelf answers and holds, held to what it should.
 use shelf::{Clause, Shelf, ShelfFault};
+use std::array;
 use std::process::Abort;
 
-// An answer that can be compared and printed: of a fault the number under which it is reported.
-pub type Answer = Result<usize, u8>;
+pub type Answer = Result<usize, ShelfFault>;
 
-pub const FULL: Answer = Err(38);
+pub const FULL: Answer = Err(ShelfFault::Full);
 
-pub const ABSENT: Answer = Err(32);
-
-fn told(answer: Result<usize, ShelfFault>) -> Answer {
-    match answer {
-        Ok(number) => Ok(number),
-        Err(ShelfFault::Absent) => ABSENT,
-        Err(ShelfFault::Full) => FULL,
-    }
-}
+pub const ABSENT: Answer = Err(ShelfFault::Absent);
 
 // The literal of variable 1 + i, with either sign in turn: 2, 5, 6, 9 and so on.
 pub(crate) fn literal(i: usize) -> u16 {
@@ -25,16 +17,12 @@ pub(crate) fn literal(i: usize) -> u16 {
 
 // The clause of all 512 variables.
 pub(crate) fn every_variable() -> [u16; 512] {
-    let mut codes = [0; 512];
-    for (i, code) in codes.iter_mut().enumerate() {
-        *code = literal(i);
-    }
-    codes
+    array::from_fn(literal)
 }
 
 // What keeping the front of a list answers.
 pub(crate) fn keep<S: Shelf>(shelf: &mut S, list: &[u16]) -> Answer {
-    told(shelf.keep(Clause::front(list)))
+    shelf.keep(Clause::front(list))
 }
 
 // What a place holds before a look: in each cell another number, and none that is a code.
@@ -50,11 +38,8 @@ pub(crate) fn shows<S: Shelf>(
     answer: Answer,
     codes: &[u16],
 ) {
-    let mut place = [0; 512];
-    for (i, cell) in place.iter_mut().enumerate() {
-        *cell = mark(i);
-    }
-    assert_eq!(rt; told(shelf.look(line, &mut place)), answer);
+    let mut place = array::from_fn(mark);
+    assert_eq!(rt; shelf.look(line, &mut place), answer);
     for (i, cell) in place.iter().enumerate() {
         assert_eq!(rt; *cell, codes.get(i).copied().unwrap_or(mark(i)));
     }

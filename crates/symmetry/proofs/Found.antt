@@ -1,7 +1,8 @@
 -- A set is looked up among the clauses by its ascending list.
-use Rattle.std.proofs.Common.{◌≡◌, ℕ, ◌<◌, true, false, ◌↔◌, List, [], length, Some, None, Option, sym, refl, ap, ◌∙◌, subst, MatchOption}
+use Rattle.std.proofs.Common.{◌≡◌, ℕ, ◌<◌, Bool, true, false, ◌↔◌, List, [], length, Some, None, Option, sym, ap, ◌∙◌, subst, MatchOption}
 use mathlib.Core.Bool.{false≢true}
 use Rattle.std.specs.List.{AllByRecursion}
+use Rattle.std.proofs.lemmas.Bool.Decides.{Decides-like}
 use Rattle.calculus.specs.Sets.{Same}
 use Rattle.calculus.specs.Meaning.{Meaning, Formed, Code, clause_of}
 use Rattle.laws.specs.Cards.{Among}
@@ -26,22 +27,21 @@ pub among_sorted : (m : Meaning) (ms C : List ℕ) → ms ≡ sorted C → Among
 among_sorted m ms C e = (among_as m ms C (same_from ms C e), among_as m C ms (λ l. ((same_from ms C e l).1, (same_from ms C e l).0)))
 
 module _ (m : Meaning) (words : List ℕ) where
-  pub found : (j : ℕ) → j < length m.clauses → members words ≡ sorted (clause_of m j) → (true ≡ true) ↔ Among m (members words)
-  found j h e = (λ t. (clause_of m j, get_or_in m.clauses j [] h, same_from (members words) (clause_of m j) e), λ a. refl)
+  pub found : (j : ℕ) × (j < length m.clauses) × (members words ≡ sorted (clause_of m j)) → Among m (members words)
+  found (j, h, e) = (clause_of m j, get_or_in m.clauses j [] h, same_from (members words) (clause_of m j) e)
 
-  pub missed : ((j : ℕ) → j < length m.clauses → members words ≡ sorted (clause_of m j) → ⊥) → (false ≡ true) ↔ Among m (members words)
-  missed none = (λ f. absurd (false≢true f), λ a. absurd (no a))
-    where
-      no : Among m (members words) → ⊥
-      no (C, i, s) =
-          let p : (j : ℕ) × (j < length m.clauses) × (clause_of m j ≡ C) = place_of C m.clauses [] i in
-          none p.0 p.1
-          (asc_same (members words) (sorted C) (asc_members words) (asc_sorted C) (λ l. (λ k. in_sorted l C ((s l).0 k), λ k. (s l).1 (from_sorted l C k))) ∙ ap sorted (sym p.2))
+  pub place : Among m (members words) → (j : ℕ) × (j < length m.clauses) × (members words ≡ sorted (clause_of m j))
+  place (C, i, s) =
+      let p : (j : ℕ) × (j < length m.clauses) × (clause_of m j ≡ C) = place_of C m.clauses [] i in (
+        p.0,
+        p.1,
+        asc_same (members words) (sorted C) (asc_members words) (asc_sorted C) (λ l. (λ k. in_sorted l C ((s l).0 k), λ k. (s l).1 (from_sorted l C k))) ∙ ap sorted (sym p.2),
+      )
 
 -- the set of a list of codes is looked up for the list; where there is none, no clause has the codes
-pub set_for :
+pub looked_up :
     (m : Meaning) (formed : Formed m) (C : List ℕ) (set : Option LiteralSet) →
     MatchOption set (AllByRecursion (Code 512) C → ⊥) (λ s. AllByRecursion (Code 512) C × (members s.words ≡ sorted C)) →
-    MatchOption set (Among m C → ⊥) (λ s. Among m (members s.words) ↔ Among m C)
-set_for m formed C None h = λ a. h (among_codes m formed C a)
-set_for m formed C (Some s) h = among_sorted m (members s.words) C h.1
+    (r : Bool) → MatchOption set (r ≡ false) (λ s. (r ≡ true) ↔ Among m (members s.words)) → (r ≡ true) ↔ Among m C
+looked_up m formed C None h r k = (λ e. absurd (false≢true (sym k ∙ e)), λ a. absurd (h (among_codes m formed C a)))
+looked_up m formed C (Some s) h r k = Decides-like r (among_sorted m (members s.words) C h.1).0 (among_sorted m (members s.words) C h.1).1 k

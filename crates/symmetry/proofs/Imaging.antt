@@ -6,7 +6,7 @@ use Rattle.laws.specs.Cards.{Card, act}
 use Rattle.laws.specs.Claims.{insert, sorted}
 use Rattle.sets.specs.Members.{members}
 use Rattle.sets.proofs.Sorted.{sorted_more, clause_code}
-use Rattle.symmetry.proofs.Codes.{act_code}
+use Rattle.cards.proofs.Actions.{act_code}
 
 module _ (m : Meaning) (card : Card) (j : ℕ) (ms : List ℕ) (i : ℕ) where
   abbrev images : List ℕ

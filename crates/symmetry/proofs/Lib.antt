@@ -1,4 +1,5 @@
-pub mod Codes
+mod Codes
+mod Counting
 mod Found
 mod Imaging
 mod Places

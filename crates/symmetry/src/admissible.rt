@@ -18,24 +18,14 @@ pub fn is_admissible<F: Formula>(f: &F, card: &Card) -> bool
 fn fixes_others<F: Formula>(f: &F, card: &Card) -> bool
     ensures { (result ≡ true) ↔ FixesOthers (F.meaning f.now) (meant card.now) }
 {
-    for v in f.variable_count() + 1..513 {
-        if image_of(card, v) as usize != 2 * v {
-            return false;
-        }
-    }
-    true
+    (f.variable_count() + 1..513).all(|v| usize::from(image_of(card, v)) == 2 * v)
 }
 
 // Whether the image of each variable is over one of the same level.
 fn keeps_levels<F: Formula>(f: &F, card: &Card) -> bool
     ensures { (result ≡ true) ↔ KeepsLevels (F.meaning f.now) (meant card.now) }
 {
-    for v in 1..f.variable_count() + 1 {
-        if !keeps_level(f, card, v) {
-            return false;
-        }
-    }
-    true
+    (1..f.variable_count() + 1).all(|v| keeps_level(f, card, v))
 }
 
 // Whether the image of v is over a variable of the same level.
@@ -43,7 +33,7 @@ fn keeps_level<F: Formula>(f: &F, card: &Card, v: usize) -> bool
     requires { v ≤ 512 }
     ensures { (result ≡ true) ↔ KeepsLevel (F.meaning f.now) (meant card.now) v }
 {
-    f.level((image_of(card, v) / 2) as usize) == f.level(v)
+    f.level(usize::from(image_of(card, v) / 2)) == f.level(v)
 }
 
 // The image of a variable.

@@ -5,7 +5,6 @@ ghost use Rattle.laws.specs.Cards.{act, Among, Carries};
 ghost use Rattle.laws.specs.Claims.{sorted};
 ghost use Rattle.cards.specs.Meant.{meant};
 ghost use Rattle.sets.specs.Members.{members};
-ghost use Rattle.symmetry.specs.Carried.{CarriesFrom};
 
 use crate::lookup::has_clause;
 use cards::Card;
@@ -16,27 +15,14 @@ use sets::LiteralSet;
 pub fn carries<F: Formula>(f: &F, card: &Card) -> bool
     ensures { (result ≡ true) ↔ Carries (F.meaning f.now) (meant card.now) }
 {
-    carries_from(f, card, 0)
-}
-
-// Whether the images of the clauses from number start on are among the clauses.
-fn carries_from<F: Formula>(f: &F, card: &Card, start: usize) -> bool
-    ensures { (result ≡ true) ↔ CarriesFrom (F.meaning f.now) (meant card.now) start }
-{
-    for j in start..f.clause_count() {
-        if !is_carried(f, card, j) {
-            return false;
-        }
-    }
-    true
+    (0..f.clause_count()).all(|j| is_carried(f, card, j))
 }
 
 // Whether the image of clause j is among the clauses.
 fn is_carried<F: Formula>(f: &F, card: &Card, j: usize) -> bool
     ensures { (result ≡ true) ↔ Among (F.meaning f.now) (map (act (meant card.now)) (clause_of (F.meaning f.now) j)) }
 {
-    let image = image_set(f, card, j);
-    has_clause(f, &image)
+    has_clause(f, &image_set(f, card, j))
 }
 
 // The set of the images of the literals of clause j.

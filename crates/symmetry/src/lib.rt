@@ -1,4 +1,5 @@
 // Which cards are symmetries of a formula.
+// The formula and the card go side by side, as callers give them: a struct of the two would be made by each public function and serve nothing else.
 #![tactic(auto)]
 
 mod admissible;

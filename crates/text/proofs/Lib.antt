@@ -1,4 +1,3 @@
-mod Rests
 mod Spans
 mod Cutting
 mod Reading

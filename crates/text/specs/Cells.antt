@@ -1,6 +1,10 @@
 -- The formula that lies in literal cells and end cells.
 use Rattle.std.specs.Prelude.{ℕ, ◌+◌, ◌-◌, ◌*◌, Bool, true, cond, ◌&&◌, List, [], ◌∷◌, length, take, drop, nat_le, nat_lt}
+use Rattle.std.specs.List.{list_all}
 use Rattle.calculus.specs.Meaning.{Meaning}
+use Rattle.reading.specs.Bindings.{levels_of, quantifiers_of}
+use Rattle.text.specs.declared.prefix.Prefix.{Prefix}
+use Rattle.text.specs.declared.outline.Outline.{Outline}
 
 -- the literals from one end to the next
 abbrev pub cut : List ℕ → ℕ → ℕ → List ℕ
@@ -17,8 +21,7 @@ code n l = nat_le 2 l && nat_lt l (2 * (n + 1))
 
 -- each of the codes is
 abbrev pub codes : ℕ → List ℕ → Bool
-codes n [] = true
-codes n (l ∷ ls) = code n l && codes n ls
+codes n ls = list_all (code n) ls
 
 -- what lies from one end to the next is within the literal cells, and is a clause over the variables 1 to n
 abbrev pub lies : ℕ → List ℕ → ℕ → ℕ → Bool
@@ -35,11 +38,18 @@ abbrev pub clauses_in : ℕ → ℕ → List ℕ → List ℕ → List (List ℕ
 clauses_in n count literals ends =
     cond (nat_le count (length ends) && fits n literals 0 (take count ends)) (cuts literals 0 (take count ends)) []
 
--- the formula of n variables whose prefix lies in two tables and whose clauses lie in the cells
-abbrev pub meant : ℕ → ℕ → List ℕ → List ℕ → List ℕ → List ℕ → Meaning
-meant n count levels quantifiers literals ends = record {
-  n = n;
-  levels = take (n + 1) levels;
-  quantifiers = take (n + 1) quantifiers;
-  clauses = clauses_in n count literals ends;
+-- the levels and the quantifiers of a prefix, 0 at place 0
+abbrev pub levels_in : Prefix → List ℕ
+levels_in p = take (p.n + 1) (levels_of p.bindings)
+
+abbrev pub quantifiers_in : Prefix → List ℕ
+quantifiers_in p = take (p.n + 1) (quantifiers_of p.bindings)
+
+-- the formula of an outline whose clauses lie in the cells
+abbrev pub meant : Outline → List ℕ → List ℕ → Meaning
+meant o literals ends = record {
+  n = o.prefix.n;
+  levels = levels_in o.prefix;
+  quantifiers = quantifiers_in o.prefix;
+  clauses = clauses_in o.prefix.n o.clauses literals ends;
 }

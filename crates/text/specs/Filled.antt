@@ -12,7 +12,7 @@ use Rattle.text.specs.declared.outline.Outline.{Outline}
 pub record Holds (S : Sizes) (text : List ℕ) (o : Outline) (literals ends : List ℕ) : Type 0 where
   pub formula : Meaning
   pub reads : Reads S text formula
-  pub held : meant o.n o.clauses o.levels o.quantifiers literals ends ≡ formula
+  pub held : meant o literals ends ≡ formula
   pub codes : literals ≡ padded S.cells (all_codes formula.clauses)
   pub counts : ends ≡ padded S.ends (running 0 formula.clauses)
 

@@ -1,8 +1,6 @@
--- Reading on: the words that have come are a lawful draft, and the state and the cells stand for it.
+-- Reading on: the words that have come are a lawful draft, and the state and the cells stand for it; others are left.
 use Rattle.std.specs.Prelude.{◌≡◌, ℕ, List, ◌++◌, Ok, Err, Result}
 use Rattle.words.specs.declared.token.Lexeme.{Lexeme}
-use Rattle.words.specs.declared.reader.Words.{Words}
-use Rattle.words.specs.Rest.{rest}
 use Rattle.words.specs.Words.{lexemes}
 use Rattle.grammar.specs.declared.rule.TextFault.{TextFault}
 use Rattle.grammar.specs.Draft.{Draft, spell}
@@ -13,10 +11,10 @@ use Rattle.reading.specs.Stands.{Stands, sizes}
 use Rattle.text.specs.declared.outline.Outline.{Outline}
 use Rattle.text.specs.Filled.{Holds}
 
-pub record Going (text : List ℕ) (words : Words) (s : State) (literals ends : List ℕ) : Type 0 where
+pub record Going (text : List ℕ) (left : List Lexeme) (s : State) (literals ends : List ℕ) : Type 0 where
   pub draft : Draft
   pub before : List Lexeme
-  pub parts : lexemes text ≡ before ++ rest words
+  pub parts : lexemes text ≡ before ++ left
   pub lawful : Lawful (sizes literals ends) draft
   pub spells : tokens before ≡ spell draft
   pub stands : Stands draft s literals ends

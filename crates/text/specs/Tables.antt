@@ -1,18 +1,18 @@
 -- What a table means, and that it is well formed.
-use Rattle.std.specs.Prelude.{◌≡◌, ℕ, ◌+◌, ◌-◌, true, ◌&&◌, List, [], ◌∷◌, length, take, nat_le}
+use Rattle.std.specs.Prelude.{◌≡◌, ℕ, ◌-◌, true, ◌&&◌, List, [], ◌∷◌, length, take, nat_le}
 use Rattle.std.proofs.Common.{arith, length-take}
 use Rattle.std.specs.List.{AllByRecursion}
 use Rattle.std.proofs.lemmas.Bool.{and_parts, leb-true, ltb-true}
 use Rattle.calculus.specs.Meaning.{Meaning, Code, Clause, prefix_out, Formed}
-use Rattle.text.specs.Cells.{cut, cuts, code, codes, lies, fits}
+use Rattle.text.specs.Cells.{levels_in, quantifiers_in, cut, cuts, code, codes, lies, fits}
 use Rattle.text.specs.declared.table.Table.{Table}
 
 -- the formula that a table holds: its prefix, and the clauses that lie in its cells
 abbrev pub formula_in : Table → Meaning
 formula_in t = record {
-  n = t.n;
-  levels = take (t.n + 1) t.levels;
-  quantifiers = take (t.n + 1) t.quantifiers;
+  n = t.prefix.n;
+  levels = levels_in t.prefix;
+  quantifiers = quantifiers_in t.prefix;
   clauses = cuts t.literals.now 0 (take t.count t.ends.now);
 }
 
@@ -41,7 +41,7 @@ fits_all n literals from (end ∷ ends) h =
 -- what a table holds is well formed
 pub formula_formed : (t : Table) → Formed (formula_in t)
 formula_formed t = record {
-  prefix = prefix_out t.formed;
+  prefix = prefix_out t.prefix.bound;
   few_clauses = omega (arith, t.counted, t.listed);
-  clauses = fits_all t.n t.literals.now 0 (take t.count t.ends.now) t.fit;
+  clauses = fits_all t.prefix.n t.literals.now 0 (take t.count t.ends.now) t.fit;
 }

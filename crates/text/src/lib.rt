@@ -2,6 +2,7 @@
 #![tactic(auto)]
 
 mod outline;
+mod prefix;
 mod reader;
 mod table;
 

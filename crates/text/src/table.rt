@@ -1,7 +1,8 @@
 // A formula as a table: its prefix by value, its clauses in lent cells.
-ghost use Rattle.std.specs.Prelude.{◌≡◌, ◌+◌, ◌≤◌, true, length, take};
-ghost use Rattle.calculus.specs.Meaning.{Prefix};
+ghost use Rattle.std.specs.Prelude.{◌≡◌, ◌≤◌, true, length, take};
 ghost use Rattle.text.specs.Cells.{cuts, fits};
+
+use super::prefix::Prefix;
 
 mod laying;
 mod questions;
@@ -9,16 +10,12 @@ mod questions;
 // Clause j lies from the end before it to its own end, the first from 0.
 #[derive(Drop)]
 pub struct Table<'a> {
-    n: usize,
+    prefix: Prefix,
     count: usize,
-    levels: [u16; 513],
-    quantifiers: [u16; 513],
     literals: &'a [u16],
     ends: &'a [u16],
-    ghost few: { n ≤ 512 },
     ghost counted: { count ≤ 2048 },
     ghost held: { count ≤ length ends.now },
     ghost listed: { length (cuts literals.now 0 (take count ends.now)) ≡ count },
-    ghost fit: { fits n literals.now 0 (take count ends.now) ≡ true },
-    ghost formed: { ∥ Prefix n (take (n + 1) levels) (take (n + 1) quantifiers) ∥₁ },
+    ghost fit: { fits prefix.n literals.now 0 (take count ends.now) ≡ true },
 }

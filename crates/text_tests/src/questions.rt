@@ -1,21 +1,24 @@
 // A table's answers, also where there is nothing to ask after.
 use super::tools::EXAMPLE;
-use formula::Formula;
+use formula::{Formula, Quantifier};
 use std::process::Abort;
 use std::test::Fail;
 use text::{Outline, Table};
 
 // The outline of the example.
 fn outline() -> Result<Outline, Fail> {
-    match text::read(EXAMPLE.as_bytes(), &mut [0; 4], &mut [0; 2]) {
-        Ok(outline) => Ok(outline),
-        Err(_) => Err(Fail::new("refused")),
-    }
+    text::read(EXAMPLE.as_bytes(), &mut [0; 4], &mut [0; 2]).map_err(|_| Fail::new("refused"))
 }
 
 // The table has the example's prefix, so many clauses, and of clause j this length and this code at place i.
 fn answers(rt: &impl Abort, table: &Table, count: usize, rows: &[(usize, usize, usize, u16)]) {
-    let prefix: &[(usize, u16, u16)] = &[(0, 0, 0), (1, 1, 1), (2, 2, 2), (3, 0, 0), (513, 0, 0)];
+    let prefix: &[(usize, u16, Option<Quantifier>)] = &[
+        (0, 0, None),
+        (1, 1, Some(Quantifier::Exists)),
+        (2, 2, Some(Quantifier::Forall)),
+        (3, 0, None),
+        (513, 0, None),
+    ];
     assert_eq!(rt; (table.variable_count(), table.clause_count()), (2, count));
     for (v, level, quantifier) in prefix {
         assert_eq!(rt;

@@ -1,14 +1,13 @@
 // A text tidied: read into lent cells, and its formula, or the report of its first fault, written into a lent buffer.
 #![tactic(auto)]
 
-ghost use Rattle.std.specs.Prelude.{ℕ, List};
-ghost use Rattle.grammar.specs.Lawful.{Sizes};
 ghost use Rattle.reading.specs.Stands.{sizes};
-ghost use Rattle.text.specs.Filled.{Filled};
 ghost use Rattle.tidying.specs.Tidied.{Tidied, Room};
 
-use grammar::TextFault;
-use text::{Outline, Table};
+mod change;
+
+pub use change::{Change, write_changed};
+use formula::Formula;
 use writer::WriteFault;
 
 // Writes the formula of a text, or the line that reports the text's first fault; answers how long that is. A buffer of 90,127 bytes
@@ -22,24 +21,16 @@ pub fn tidy(
     ensures tidies { Tidied (sizes literals.old ends.old) text.now result out.old out.new literals.new ends.new }
     ensures room { Room out.old result }
 {
-    let outcome = text::read(text, literals, ends);
-    write_outcome(outcome, literals, ends, out)
+    write_changed::<Unchanged>(text, literals, ends, out)
 }
 
-// Writes what reading a text came to, where these cells hold the clauses.
-fn write_outcome<'a>(
-    outcome: Result<Outline, TextFault>,
-    literals: &'a [u16],
-    ends: &'a [u16],
-    out: &mut [u8],
-) -> Result<usize, WriteFault>
-    ensures { (S : Sizes) (text : List ℕ) → Filled S text outcome literals.now ends.now → Tidied S text result out.old out.new literals.now ends.now × Room out.old result }
-{
-    match outcome {
-        Ok(outline) => {
-            let table = Table::over(outline, literals, ends);
-            writer::write(&table, out)
-        }
-        Err(fault) => writer::write_refusal(fault, out),
+// The formula is written as it is.
+pub struct Unchanged;
+
+impl Change for Unchanged {
+    ghost change = { λ m. m };
+
+    fn write<F: Formula>(f: &F, out: &mut [u8]) -> Result<usize, WriteFault> {
+        writer::write(f, out)
     }
 }

@@ -1,5 +1,4 @@
 pub mod Causal
-mod Digits
 mod Numbers
 mod Reading
 mod Regions

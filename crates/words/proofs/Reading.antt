@@ -1,7 +1,8 @@
 -- The first word of what is left of a text: behind the blanks in front, as far as no blank comes.
-use Rattle.std.proofs.Common.{◌≡◌, ℕ, suc, ◌+◌, ◌-◌, ◌<◌, Bool, true, false, not, List, [], ◌∷◌, ◌++◌, map, length, take, drop, sym, refl, ap, ◌∙◌, subst, ⊎_elim, add-zero, add_assoc, one-add, arith}
+use Rattle.std.proofs.Common.{◌≡◌, ℕ, suc, ◌+◌, ◌-◌, ◌<◌, Bool, true, false, not, List, [], ◌∷◌, ◌++◌, map, length, take, drop, sym, refl, ap, ◌∙◌, subst, ⊎_elim, add-zero, one-add, arith}
 use Rattle.std.specs.List.{prefix_len}
 use Rattle.std.proofs.lemmas.List.{append-nil, append_assoc, drop-drop}
+use Rattle.std.proofs.lemmas.List.Folds.{length-prefix_len}
 use Rattle.std.proofs.lemmas.Bool.{cases_Bool, cond-true, cond-false}
 use Rattle.words.specs.declared.token.Token.{Token}
 use Rattle.words.specs.Rest.{lexemes_from}
@@ -72,27 +73,29 @@ ended_some at n [] e h = absurd (omega arith)
 ended_some at n (b ∷ bs) e h =
     let back : (at + n) - length (b ∷ bs) ≡ at = omega arith in ap (λ k. (k, b ∷ bs) ∷ []) back
 
-drop_thrice : (a k n : ℕ) (s : List ℕ) → drop n (drop k (drop a s)) ≡ drop (a + k + n) s
-drop_thrice a k n s = drop-drop n k (drop a s) ∙ drop-drop (k + n) a s ∙ (rw (← add_assoc))
+module _ (text : List ℕ) (at : ℕ) {k n : ℕ} (k_is : k ≡ prefix_len blank (drop at text)) (n_is : n ≡ prefix_len solid (drop (at + k) text)) where
+  front_is : drop k (drop at text) ≡ drop (at + k) text
+  front_is = drop-drop k at text
 
-module _ (text : List ℕ) (at : ℕ) {k n : ℕ} {tail front : List ℕ} where
-  -- no word is left
-  pub read_none : tail ≡ drop at text → k ≡ prefix_len blank tail → front ≡ drop k tail → n ≡ prefix_len solid front
-      → n ≡ 0 → lexemes_from at text ≡ []
-  read_none tail_is k_is front_is n_is z =
+  behind_blanks : words_from at [] (drop at text) ≡ words_from (at + k) [] (drop (at + k) text)
+  behind_blanks =
       let s = drop at text in
-      let e : prefix_len solid (drop (prefix_len blank s) s) ≡ 0 = cc in
-      ap (map lexeme) (skipped at s ∙ ap (words_from (at + prefix_len blank s) []) (stops s e))
+      skipped at s ∙ ap (λ j. words_from (at + j) [] (drop j s)) (sym k_is) ∙ ap (words_from (at + k) []) front_is
+
+  -- no word is left
+  pub read_none : n ≡ 0 → lexemes_from at text ≡ []
+  read_none z =
+      let s = drop at text in
+      let front : drop (prefix_len blank s) s ≡ drop (at + k) text = ap (λ j. drop j s) (sym k_is) ∙ front_is in
+      ap (map lexeme) (behind_blanks ∙ ap (words_from (at + k) []) (sym front ∙ stops s (ap (prefix_len solid) front ∙ sym n_is ∙ z)))
 
   -- the next word
-  pub read_some : {word : List ℕ} {token : Token} → tail ≡ drop at text → k ≡ prefix_len blank tail → front ≡ drop k tail
-      → n ≡ prefix_len solid front → word ≡ take n front → token ≡ token_of word → length word ≡ n → (n ≡ 0 → ⊥)
-      → lexemes_from at text
-      ≡ record { place = at + k; token = token } ∷ lexemes_from (at + k + n) text
-  read_some {word} {token} tail_is k_is front_is n_is word_is token_is long nz =
-      let first : words_from at [] (drop at text) ≡ words_from (at + k) [] front
-      = rw (front_is, k_is, tail_is) (skipped at (drop at text)) in
-      let second : words_from (at + k) [] front ≡ ended (at + k + n) word ++ words_from (at + k + n) [] (drop n front)
-      = rw (word_is, n_is) (gathered (at + k) [] front) in
-      let back : drop n front ≡ drop (at + k + n) text = rw (front_is, tail_is) (drop_thrice at k n text) in
-      ap (map lexeme) (first ∙ second) ∙ rw (token_is, back, ended_some (at + k) n word long (omega arith))
+  pub read_some : {token : Token} → token ≡ token_of (take n (drop (at + k) text)) → (n ≡ 0 → ⊥)
+      → lexemes_from at text ≡ record { place = at + k; token = token } ∷ lexemes_from (at + k + n) text
+  read_some {token} token_is nz =
+      let front = drop (at + k) text in
+      let word : words_from (at + k) [] front ≡ ended (at + k + n) (take n front) ++ words_from (at + k + n) [] (drop n front)
+      = rw n_is (gathered (at + k) [] front) in
+      let long : length (take n front) ≡ n = rw n_is (length-prefix_len solid front) in
+      ap (map lexeme) (behind_blanks ∙ word)
+      ∙ rw (token_is, drop-drop n (at + k) text, ended_some (at + k) n (take n front) long (omega arith))

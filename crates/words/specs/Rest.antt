@@ -1,8 +1,13 @@
 -- What is still to be read of a text.
-use Rattle.std.specs.Prelude.{◌≡◌, ℕ, ◌<◌, ◌≤◌, List, [], ◌∷◌, map, length, drop}
+use Rattle.std.specs.Prelude.{◌≡◌, ℕ, ◌<◌, ◌≤◌, Bool, true, false, not, List, [], ◌∷◌, map, length, drop, IfSome, Option}
+use Rattle.std.specs.Iterator.{YieldsFirst}
 use Rattle.words.specs.declared.token.Lexeme.{Lexeme}
-use Rattle.words.specs.declared.reader.Words.{Words}
-use Rattle.words.specs.Words.{words_from, lexeme}
+use Rattle.words.specs.Words.{blank, words_from, lexeme}
+
+-- the bytes of a run of blanks, and those of a word
+abbrev pub in_run : Bool → ℕ → Bool
+in_run true b = blank b
+in_run false b = not (blank b)
 
 -- the words of a text from an offset on
 abbrev pub lexemes_from : ℕ → List ℕ → List Lexeme
@@ -14,10 +19,11 @@ pub record First (at : ℕ) (text : List ℕ) (l : Lexeme) (end : ℕ) : Type 0 
   pub place : l.place < length text
   pub within : end ≤ length text
 
--- the words from the offset on that reading has come to
-abbrev pub rest : Words → List Lexeme
-rest w = lexemes_from w.at w.text.now
+-- a text that is read word by word: the whole text, and the words that are left
+pub record Unread : Type 0 where
+  pub text : List ℕ
+  pub left : List Lexeme
 
--- the whole text
-abbrev pub text_of : Words → List ℕ
-text_of w = w.text.now
+-- reading gives the first word that is left, which begins in the text, and leaves the others; of no word it leaves none
+abbrev pub Gives : Unread → Option Lexeme → Unread → Type 0
+Gives u given v = YieldsFirst (λ w. w.left) u given v × IfSome given (λ l. l.place < length u.text) × (v.text ≡ u.text)

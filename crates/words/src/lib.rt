@@ -12,15 +12,11 @@ pub use reader::Words;
 pub use token::{Lexeme, Token};
 
 // The words that say numbers are the decimal numerals below 100000.
-pub fn numbers_are_decimals() -> u8
+pub fn numbers_are_decimals()
     ensures { NumbersAreDecimals }
-{
-    0
-}
+{}
 
 // What stands behind a word changes no word up to it.
-pub fn words_behind_never_matter() -> u8
+pub fn words_behind_never_matter()
     ensures { WordsBehindNeverMatter }
-{
-    0
-}
+{}

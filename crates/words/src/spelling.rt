@@ -4,23 +4,14 @@ ghost use Rattle.words.specs.Tokens.{digit, digits_after, natural, name, negated
 
 use super::token::Token;
 
-fn is_digit(b: u8) -> bool
-    ensures { result ≡ digit b }
-{
-    48 <= b && b <= 57
-}
-
 // The value of at most five digits; None where a byte is no digit.
 fn digits_value(s: &[u8]) -> Option<u32>
     requires { length s.now ≤ 5 }
     ensures { result ≡ digits_after 0 s.now }
 {
-    let mut v: u32 = 0;
+    let mut v = 0;
     for b in s {
-        if !is_digit(*b) {
-            return None;
-        }
-        v = v * 10 + (*b - 48) as u32;
+        v = v * 10 + char::from(*b).to_digit(10)?;
     }
     Some(v)
 }
@@ -30,14 +21,9 @@ fn natural_of(word: &[u8]) -> Option<u32>
     ensures { result ≡ natural word.now }
 {
     match word {
-        [] => None,
-        [b'0', _, ..] => None,
-        _ => {
-            if word.len() > 5 {
-                return None;
-            }
-            digits_value(word)
-        }
+        [] | [b'0', _, ..] => None,
+        _ if word.len() > 5 => None,
+        _ => digits_value(word),
     }
 }
 
@@ -46,8 +32,7 @@ fn negative_of(digits: &[u8]) -> Token
     ensures { result ≡ negated (natural digits.now) }
 {
     match natural_of(digits) {
-        None => Token::Other,
-        Some(0) => Token::Other,
+        None | Some(0) => Token::Other,
         Some(k) => Token::Negative(k),
     }
 }
@@ -57,7 +42,7 @@ fn name_of(word: &[u8]) -> Token
     ensures { result ≡ name word.now }
 {
     match word {
-        [b] => match *b as char {
+        [letter] => match char::from(*letter) {
             'p' => Token::Problem,
             'e' => Token::Exists,
             'a' => Token::Forall,
@@ -79,11 +64,13 @@ fn unsigned_of(word: &[u8]) -> Token
 }
 
 // What a word says.
-pub fn token_of(word: &[u8]) -> Token
-    ensures { result ≡ token_of word.now }
-{
-    match word {
-        [b'-', digits @ ..] => negative_of(digits),
-        _ => unsigned_of(word),
+impl<'a> From<&'a [u8]> for Token {
+    ghost from_gives = { λ word t. t ≡ token_of word.now };
+
+    fn from(word: &'a [u8]) -> Token {
+        match word {
+            [b'-', digits @ ..] => negative_of(digits),
+            _ => unsigned_of(word),
+        }
     }
 }

@@ -1,5 +1,5 @@
 // What a word says.
-#[derive(Clone, Copy)]
+#[derive(Clone, Copy, Debug, PartialEq, Eq)]
 pub enum Token {
     Problem,
     Cnf,
@@ -11,7 +11,7 @@ pub enum Token {
 }
 
 // A word by what it says and the offset of its first byte.
-#[derive(Clone, Copy)]
+#[derive(Clone, Copy, Debug, PartialEq, Eq)]
 pub struct Lexeme {
     pub place: usize,
     pub token: Token,

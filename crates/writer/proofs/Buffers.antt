@@ -1,7 +1,11 @@
 -- What a buffer holds once a text was put at its start.
-use Rattle.std.proofs.Common.{◌≡◌, ℕ, ◌+◌, ◌≤◌, List, [], ◌∷◌, ◌++◌, length, take, drop, sym, refl, ap, ◌∙◌, append_assoc, arith}
-use Rattle.std.proofs.lemmas.List.{set_at, take_at, length_push}
-use Rattle.writer.specs.Into.{laid}
+use Rattle.std.proofs.Common.{◌≡◌, ℕ, ◌+◌, ◌≤◌, List, [], ◌∷◌, ◌++◌, length, drop, Ok, Err, Result, sym, refl, ap, ◌∙◌, subst, append_assoc, arith}
+use Rattle.std.proofs.lemmas.List.{set_at, length_push}
+use Rattle.std.proofs.lemmas.Bool.{cond_both, cond-true, leb-true, leb-false, le-leb}
+use Rattle.writer.specs.declared.fault.WriteFault.{WriteFault}
+use Rattle.writer.specs.declared.fault.WriteFault.TheVariants.{Cramped}
+use Rattle.writer.specs.declared.pen.Pen.{Pen}
+use Rattle.writer.specs.Into.{fits, laid, answer, filled, RoomFor}
 use Rattle.writer.specs.Pen.{stamp, Put}
 
 stamp_behind : (at : ℕ) (front bs rest : List ℕ) → length front ≡ at → length bs ≤ length rest →
@@ -17,10 +21,15 @@ stamp_behind at front (b ∷ bs) (r ∷ rest) e h =
 pub stamp_fits : (bs out : List ℕ) → length bs ≤ length out → stamp 0 bs out ≡ bs ++ drop (length bs) out
 stamp_fits bs out h = stamp_behind 0 [] bs out refl h
 
--- so many bytes were put, and the buffer begins with them
-pub laid_by : {bs out q : List ℕ} {len : ℕ} → length bs ≤ length out → Put bs out 0 q len →
-    (len ≡ length bs) × (q ≡ laid bs out) × (take len q ≡ bs)
-laid_by {bs} {out} {q} {len} h f =
-    let same : len ≡ length bs = omega arith in
-    let held = f.held ∙ stamp_fits bs out h in
-    (same, held, ap (take len) held ∙ take_at bs (drop (length bs) out) len (sym same))
+-- a pen that began at the start of a buffer which is long enough leaves the text there
+pub filled_by : {bs out left : List ℕ} {p q : Pen} → left ≡ q.out.now → Put bs p q → p.out.now ≡ out → p.at ≡ 0 → length bs ≤ length out →
+    left ≡ filled bs out
+filled_by {bs} {out} e f buffer start h =
+    e ∙ (f.held ∙ (rw (start, buffer) (stamp_fits bs out h) ∙ sym (cond-true (fits bs out) (laid bs out) out (le-leb (length bs) (length out) h))))
+
+-- a text of at most so many bytes fits a buffer of so many, and what fits lies within
+pub has_room : {r : Result ℕ WriteFault} (most : ℕ) (bytes out : List ℕ) → length bytes ≤ most → r ≡ answer bytes out → RoomFor most out r
+has_room most bytes out short a =
+    subst (RoomFor most out) (sym a)
+    (cond_both (fits bytes out) (Ok (length bytes)) (Err Cramped) (RoomFor most out) (λ e. (λ _. refl, leb-true (length bytes) (length out) e))
+    (λ e. (λ wide. absurd (omega (arith, leb-false (length bytes) (length out) e)), tt)))

@@ -1,5 +1,5 @@
 -- How long the text of a formula, and the line that reports a fault, can be.
-use Rattle.std.proofs.Common.{ℕ, zero, suc, ◌+◌, ◌*◌, ◌/◌, ◌%◌, ◌^◌, ◌<◌, ◌≤◌, Bool, eqb, leb, List, [], ◌∷◌, ◌++◌, length, codes, decimal, sum_by, filter, sym, subst, mul-suc, mul-add, arith, length-append}
+use Rattle.std.proofs.Common.{ℕ, zero, suc, ◌+◌, ◌*◌, ◌/◌, ◌%◌, ◌^◌, ◌<◌, ◌≤◌, eqb, leb, List, [], ◌∷◌, ◌++◌, length, codes, decimal, sum_by, filter, sym, subst, mul-suc, mul-add, arith, length-append}
 use Rattle.std.specs.List.{range_with_len, flat_map, AllByRecursion}
 use Rattle.std.proofs.lemmas.List.FromFn.{length-range_with_len}
 use Rattle.std.proofs.lemmas.Fmt.{length-decimal-le}
@@ -52,9 +52,6 @@ levels_share level vs a zero = omega arith
 levels_share level vs a (suc g) =
     let size = λ (k : ℕ). length (filter (λ v. eqb (level v) k) vs) in
     omega (arith, sum_by-cons size a (range_with_len (a + 1) g), levels_share level vs (a + 1) g, above level a vs)
-
-kept_short : (p : ℕ → Bool) (vs : List ℕ) → length (filter p vs) ≤ length vs
-kept_short p vs = omega (arith, length-filter p vs, count_by-le-length p vs)
 
 -- digits of numbers below 1,000
 small_short : (k : ℕ) → k < 1000 → length (decimal k) ≤ 3
@@ -129,7 +126,8 @@ module _ (m : Meaning) (h : Formed m) where
         joined_short (block_line m) size 4 4 ks (All-weaker (Variable g) (λ k. length (block_line m k) ≤ 4 * size k + 4) (λ k w. block_short k) ks all),
         some_each size ks (All-weaker (Variable g) (λ k. 1 ≤ size k) (λ k w. some_at_each m h.prefix k w.0 w.1) ks all),
         levels_share (level_of m) (range_with_len 1 m.n) 1 g,
-        kept_short (λ v. leb 1 (level_of m v)) (range_with_len 1 m.n),
+        length-filter (λ v. leb 1 (level_of m v)) (range_with_len 1 m.n),
+        count_by-le-length (λ v. leb 1 (level_of m v)) (range_with_len 1 m.n),
       )
 
   clauses_short : FitsLimits m → length (flat_map clause_line m.clauses) ≤ 86016

@@ -1,11 +1,11 @@
 -- The clauses of a well-formed formula with the latest first, as a text that is read holds them, and that they are lawful.
-use Rattle.std.proofs.Common.{◌≡◌, ℕ, List, [], ◌∷◌, ◌++◌, map, reverse, length, sum_by, sym, refl, ap, ◌∙◌, subst, arith}
+use Rattle.std.proofs.Common.{◌≡◌, ℕ, List, [], ◌∷◌, ◌++◌, map, reverse, length, sum_by, sym, refl, ap, ◌∙◌, arith}
 use mathlib.Core.List.{reverse-cons}
 use Rattle.std.specs.List.{AllByRecursion}
-use Rattle.std.proofs.ByRecursion.{All-push}
 use Rattle.std.proofs.lemmas.List.{length-map, length-reverse, reverse-reverse, map_push}
 use Rattle.std.proofs.lemmas.List.Sums.{sum_by-cons, sum_by_push}
 use Rattle.calculus.specs.Meaning.{Code, Clause}
+use Rattle.grammar.proofs.Formedness.{all_reverse}
 
 -- the latest clause first, and in each the latest literal
 abbrev pub back : List (List ℕ) → List (List ℕ)
@@ -39,10 +39,6 @@ total_reversed (C ∷ Cs) =
 
 pub total_back : (Cs : List (List ℕ)) → sum_by length (back Cs) ≡ sum_by length Cs
 total_back Cs = sum_by_reverse length (map reverse Cs) ∙ total_reversed Cs
-
-all_reverse : {X : Type 0} (P : X → Type 0) (xs : List X) → AllByRecursion P xs → AllByRecursion P (reverse xs)
-all_reverse P [] h = tt
-all_reverse P (x ∷ xs) h = subst (AllByRecursion P) (sym (reverse-cons x xs)) (All-push P (reverse xs) x (all_reverse P xs h.1) h.0)
 
 clauses_reversed : (n : ℕ) (Cs : List (List ℕ)) → AllByRecursion (Clause n) Cs → AllByRecursion (Clause n) (map reverse Cs)
 clauses_reversed n [] h = tt

@@ -1,19 +1,18 @@
 -- Bytes put one after the other: what several puts come to.
-use Rattle.std.proofs.Common.{◌≡◌, ℕ, ◌+◌, ◌-◌, ◌^◌, ◌<◌, ◌≤◌, min, Bool, cond, List, [], ◌∷◌, ◌++◌, length, get_or, take, set, filter, sym, refl, ap, ◌∙◌, ⊎_elim, arith, length-append, length-set}
+use Rattle.std.proofs.Common.{◌≡◌, ℕ, zero, suc, ◌+◌, ◌-◌, ◌^◌, ◌<◌, ◌≤◌, min, Bool, true, false, List, [], ◌∷◌, ◌++◌, length, get_or, take, set, filter, sym, refl, ap, ◌∙◌, ⊎_elim, sub-one, arith, length-append, length-set}
 use Rattle.std.specs.List.{range_with_len, flat_map}
-use Rattle.std.proofs.lemmas.List.FromFn.{length-range_with_len, get_or-range_with_len}
-use Rattle.std.proofs.lemmas.List.{set_past, take_more, take_all, flat_map_more}
-use Rattle.std.proofs.lemmas.Bool.{cases_lt, cond_both}
+use Rattle.std.proofs.lemmas.List.{set_past, take_more, take_all, flat_map_more, append-nil}
+use Rattle.std.proofs.lemmas.Grind.{flat_map-append}
+use Rattle.std.proofs.lemmas.List.Elements.{filter-append}
+use Rattle.std.proofs.lemmas.Bool.{cases_lt}
+use Rattle.writer.specs.declared.pen.Pen.{Pen}
 use Rattle.writer.specs.Pen.{stamp, Put}
+use Rattle.writer.proofs.Descents.{counting_one_push}
 
 -- bytes past the end change nothing
 pub stamp_past : (at : ℕ) (bs out : List ℕ) → length out ≤ at → stamp at bs out ≡ out
 stamp_past at [] out h = refl
 stamp_past at (b ∷ bs) out h = rw (set_past out at b h) (stamp_past (at + 1) bs out (omega arith))
-
-pub length_stamp : (at : ℕ) (bs out : List ℕ) → length (stamp at bs out) ≡ length out
-length_stamp at [] out = refl
-length_stamp at (b ∷ bs) out = length_stamp (at + 1) bs (set out at b) ∙ length-set out at b
 
 -- bytes behind bytes, at the place where those end, or anywhere past the end of the buffer
 pub stamp_append : (at next : ℕ) (bs cs out : List ℕ) → next ≡ min (at + length bs) (2 ^ 64 - 1) → length out < 2 ^ 63 →
@@ -23,43 +22,48 @@ stamp_append at next [] cs out e h =
     (λ k. stamp_past at cs out (omega arith) ∙ sym (stamp_past next cs out (omega arith))) (cases_lt at (2 ^ 64))
 stamp_append at next (b ∷ bs) cs out e h = stamp_append (at + 1) next bs cs (set out at b) (omega arith) (rw length-set h)
 
-pub put_none : (out : List ℕ) (at : ℕ) → length out < 2 ^ 63 → at < 2 ^ 64 → Put [] out at out at
-put_none out at h k = record { room = h; held = refl; place = omega arith }
-
-pub put_then : {bs cs o p q : List ℕ} {at next end : ℕ} → Put bs o at p next → Put cs p next q end → Put (bs ++ cs) o at q end
-put_then {bs} {cs} {o} {p} {q} {at} {next} {end} f g =
+pub put_then : {bs cs : List ℕ} {o p q : Pen} → Put bs o p → Put cs p q → Put (bs ++ cs) o q
+put_then {bs} {cs} {o} {p} {q} f g =
     record {
+      same = g.same ∙ f.same;
       room = f.room;
-      held = g.held ∙ (ap (stamp next cs) f.held ∙ sym (stamp_append at next bs cs o f.place f.room));
+      held = g.held ∙ (ap (stamp p.at cs) f.held ∙ sym (stamp_append o.at p.at bs cs o.out.now f.place f.room));
       place = rw length-append (omega arith);
     }
 
-pub put_as : {bs cs o p : List ℕ} {at next : ℕ} → bs ≡ cs → Put bs o at p next → Put cs o at p next
+pub put_as : {bs cs : List ℕ} {o p : Pen} → bs ≡ cs → Put bs o p → Put cs o p
 put_as e f = rw e at f
 
 -- a loop that puts the text of one element after the other
-pub put_more : {X : Type 0} (f : X → List ℕ) (xs : List X) (i : ℕ) (d : X) {o p q : List ℕ} {at next end : ℕ} → i < length xs →
-    Put (flat_map f (take i xs)) o at p next → Put (f (get_or xs i d)) p next q end → Put (flat_map f (take (i + 1) xs)) o at q end
+pub put_more : {X : Type 0} (f : X → List ℕ) (xs : List X) (i : ℕ) (d : X) {o p q : Pen} → i < length xs →
+    Put (flat_map f (take i xs)) o p → Put (f (get_or xs i d)) p q → Put (flat_map f (take (i + 1) xs)) o q
 put_more f xs i d h s t = put_as (sym (ap (flat_map f) (take_more xs i d h) ∙ sym (flat_map_more f [] (take i xs) (get_or xs i d)))) (put_then s t)
 
-pub put_every : {X : Type 0} (f : X → List ℕ) (xs : List X) (i : ℕ) {o p : List ℕ} {at next : ℕ} → length xs ≤ i →
-    Put (flat_map f (take i xs)) o at p next → Put (flat_map f xs) o at p next
+pub put_every : {X : Type 0} (f : X → List ℕ) (xs : List X) (i : ℕ) {o p : Pen} → length xs ≤ i →
+    Put (flat_map f (take i xs)) o p → Put (flat_map f xs) o p
 put_every f xs i h s = put_as (ap (flat_map f) (take_all i xs h)) s
 
--- the same over the numbers 1 to n
-pub put_count : (f : ℕ → List ℕ) (n i : ℕ) {o p q : List ℕ} {at next end : ℕ} → i < n →
-    Put (flat_map f (take i (range_with_len 1 n))) o at p next → Put (f (i + 1)) p next q end → Put (flat_map f (take (i + 1) (range_with_len 1 n))) o at q end
-put_count f n i h s t =
-    put_more f (range_with_len 1 n) i 0 (rw length-range_with_len h) s
-    (put_as (ap f (let e : i + 1 ≡ 1 + i = omega arith in e ∙ sym (get_or-range_with_len 1 n i 0 h))) t)
+-- the same over the numbers 1 to k, and over those of them that pass a test
+counted : (f : ℕ → List ℕ) (k : ℕ) → 1 ≤ k → flat_map f (range_with_len 1 (k - 1)) ++ f k ≡ flat_map f (range_with_len 1 k)
+counted f zero h = absurd (omega arith)
+counted f (suc j) h = rw sub-one (flat_map_more f [] (range_with_len 1 j) (suc j) ∙ ap (flat_map f) (sym (counting_one_push j)))
 
-pub put_counted : (f : ℕ → List ℕ) (n i : ℕ) {o p : List ℕ} {at next : ℕ} → n ≤ i →
-    Put (flat_map f (take i (range_with_len 1 n))) o at p next → Put (flat_map f (range_with_len 1 n)) o at p next
-put_counted f n i h s = put_every f (range_with_len 1 n) i (rw length-range_with_len h) s
+pub put_count : (f : ℕ → List ℕ) (k : ℕ) {o p q : Pen} → 1 ≤ k → Put (flat_map f (range_with_len 1 (k - 1))) o p → Put (f k) p q →
+    Put (flat_map f (range_with_len 1 k)) o q
+put_count f k h s t = put_as (counted f k h) (put_then s t)
 
--- the text of what a filter keeps
-pub joined_kept : (p : ℕ → Bool) (f : ℕ → List ℕ) (xs : List ℕ) → flat_map f (filter p xs) ≡ flat_map (λ x. cond (p x) (f x) []) xs
-joined_kept p f [] = refl
-joined_kept p f (x ∷ xs) =
-    cond_both (p x) (x ∷ filter p xs) (filter p xs) (λ ys. flat_map f ys ≡ cond (p x) (f x) [] ++ flat_map (λ x. cond (p x) (f x) []) xs)
-    (λ e. rw e (ap (λ ys. f x ++ ys) (joined_kept p f xs))) (λ e. rw e (joined_kept p f xs))
+counted_kept : (p : ℕ → Bool) (f : ℕ → List ℕ) (k : ℕ) → 1 ≤ k →
+    flat_map f (filter p (range_with_len 1 (k - 1))) ++ flat_map f (filter p (k ∷ [])) ≡ flat_map f (filter p (range_with_len 1 k))
+counted_kept p f zero h = absurd (omega arith)
+counted_kept p f (suc j) h =
+    rw sub-one
+    (sym (flat_map-append f (filter p (range_with_len 1 j)) (filter p (suc j ∷ [])))
+    ∙ ap (flat_map f) (sym (ap (filter p) (counting_one_push j) ∙ filter-append p (range_with_len 1 j) (suc j ∷ []))))
+
+pub put_kept : (p : ℕ → Bool) (f : ℕ → List ℕ) (k : ℕ) {o q r : Pen} → 1 ≤ k → p k ≡ true →
+    Put (flat_map f (filter p (range_with_len 1 (k - 1)))) o q → Put (f k) q r → Put (flat_map f (filter p (range_with_len 1 k))) o r
+put_kept p f k h e s t = put_as (counted_kept p f k h) (put_then s (put_as (rw e (sym (append-nil (f k)))) t))
+
+pub put_left : (p : ℕ → Bool) (f : ℕ → List ℕ) (k : ℕ) {o q : Pen} → 1 ≤ k → p k ≡ false →
+    Put (flat_map f (filter p (range_with_len 1 (k - 1)))) o q → Put (flat_map f (filter p (range_with_len 1 k))) o q
+put_left p f k h e s = put_as (rw e at (counted_kept p f k h)) (put_as (sym (append-nil _)) s)

@@ -1,25 +1,27 @@
--- Loops over the variables and the levels.
-use Rattle.std.proofs.Common.{◌≡◌, ℕ, suc, ◌+◌, ◌-◌, ◌<◌, ◌≤◌, max, Bool, true, false, List, [], ◌∷◌, ◌++◌, length, get_or, take, filter, refl, ap, ◌∙◌, arith}
+-- What the questions about the variables come to: the greatest level, and the first variable of a level.
+use Rattle.std.proofs.Common.{◌≡◌, ℕ, zero, suc, ◌+◌, ◌<◌, ◌≤◌, Bool, true, List, [], ◌∷◌, length, get_or, filter, Some, None, Option, MatchOption, slice_get, refl, ap, ⊎_elim, arith}
 use Rattle.std.specs.List.{range_with_len}
-use Rattle.std.proofs.lemmas.List.{take_more}
+use Rattle.std.proofs.lemmas.Bool.{cond_both, cases_eq}
 use Rattle.writer.specs.Written.{greatest}
 
-greatest_push : (xs : List ℕ) (y : ℕ) → greatest (xs ++ (y ∷ [])) ≡ max (greatest xs) y
-greatest_push [] y = omega arith
-greatest_push (x ∷ xs) y = omega (arith, greatest_push xs y)
+-- the greatest is the least number that no element is above
+pub greatest_below : (xs : List ℕ) (b : ℕ) → ((i : ℕ) → i < length xs → get_or xs i 0 ≤ b) → greatest xs ≤ b
+greatest_below [] b h = omega arith
+greatest_below (x ∷ xs) b h = omega (arith, h 0 (omega arith), greatest_below xs b (λ i l. h (suc i) (omega arith)))
 
-pub greatest_more : (xs : List ℕ) (i : ℕ) → i < length xs → greatest (take (i + 1) xs) ≡ max (greatest (take i xs)) (get_or xs i 0)
-greatest_more xs i h = ap greatest (take_more xs i 0 h) ∙ greatest_push (take i xs) (get_or xs i 0)
+-- none of these numbers passes, or the first that does is v
+abbrev pub FirstOf : (ℕ → Bool) → ℕ → ℕ → Option ℕ → Type 0
+FirstOf p a n r =
+    MatchOption r ((v : ℕ) → a ≤ v → v < a + n → p v ≡ true → ⊥)
+    (λ v. (a ≤ v) × (v < a + n) × (p v ≡ true) × ((w : ℕ) → a ≤ w → w < v → p w ≡ true → ⊥))
 
--- the numbers from v to n
-pub counting_first : (v n : ℕ) → v < n → range_with_len v (n - v) ≡ v ∷ range_with_len (v + 1) (n - (v + 1))
-counting_first v n h = let e : n - v ≡ suc (n - (v + 1)) = omega arith in rw e refl
-
-pub kept_first : (p : ℕ → Bool) (v n : ℕ) → v < n → p v ≡ true → filter p (range_with_len v (n - v)) ≡ v ∷ filter p (range_with_len (v + 1) (n - (v + 1)))
-kept_first p v n h e = rw (counting_first v n h, e) refl
-
-pub kept_later : (p : ℕ → Bool) (v n : ℕ) → v < n → p v ≡ false → filter p (range_with_len v (n - v)) ≡ filter p (range_with_len (v + 1) (n - (v + 1)))
-kept_later p v n h e = rw (counting_first v n h, e) refl
-
-pub kept_none : (p : ℕ → Bool) (v n : ℕ) → n ≤ v → filter p (range_with_len v (n - v)) ≡ []
-kept_none p v n h = let e : n - v ≡ 0 = omega arith in rw e refl
+pub first_kept : (p : ℕ → Bool) (a n : ℕ) (r : Option ℕ) → FirstOf p a n r → r ≡ slice_get (filter p (range_with_len a n)) 0
+first_kept p a zero None h = refl
+first_kept p a zero (Some v) h = absurd (omega arith)
+first_kept p a (suc n) None h =
+    cond_both (p a) _ _ (λ vs. None ≡ slice_get vs 0) (λ t. absurd (h a (omega arith) (omega arith) t))
+    (λ _. first_kept p (a + 1) n None (λ v l b. h v (omega arith) (omega arith)))
+first_kept p a (suc n) (Some v) (above, below, passes, first) =
+    cond_both (p a) _ _ (λ vs. Some v ≡ slice_get vs 0)
+    (λ t. ⊎_elim (λ e. ap Some e) (λ ne. absurd (first a (omega arith) (omega arith) t)) (cases_eq v a))
+    (λ f. first_kept p (a + 1) n (Some v) (⊎_elim (λ e. absurd (cc)) (λ ne. omega arith) (cases_eq v a), omega arith, passes, λ w l. first w (omega arith)))

@@ -1,10 +1,11 @@
 -- What is written of a formula reads back as that formula.
-use Rattle.std.proofs.Common.{◌≡◌, ℕ, zero, suc, ◌+◌, ◌<◌, eqb, List, [], ◌∷◌, ◌++◌, map, reverse, length, sym, refl, ap, ◌∙◌, append_assoc, arith}
+use Rattle.std.proofs.Common.{◌≡◌, ℕ, zero, suc, ◌+◌, ◌<◌, eqb, Bool, true, false, cond, List, [], ◌∷◌, ◌++◌, map, reverse, length, Ok, Err, sym, refl, ap, ◌∙◌, append_assoc, arith}
 use mathlib.Core.List.{reverse-cons}
 use Rattle.std.specs.List.{range_with_len, flat_map}
 use Rattle.std.proofs.lemmas.List.FromFn.{fill_by_all}
 use Rattle.std.proofs.ByRecursion.{all_kept_by, All-weaker}
 use Rattle.std.proofs.lemmas.List.{append-nil, flat_map_more}
+use Rattle.std.proofs.Math.Seq.{take-append_seam}
 use Rattle.calculus.specs.Meaning.{Meaning, Formed, Variable, Clause, level_of}
 use Rattle.calculus.specs.Truth.{at_level}
 use Rattle.grammar.specs.Draft.{matrix, spelled, letter, literal_word, ended_block, ended_clause, header_words, spell, level_in, quantifier_in, formula_of}
@@ -12,7 +13,9 @@ use Rattle.grammar.specs.Lawful.{Sizes, AllBound, Clauses}
 use Rattle.grammar.specs.Outcome.{Reads}
 use Rattle.words.specs.declared.token.Token.{Token}
 use Rattle.words.specs.declared.token.Token.TheVariants.{Number}
-use Rattle.writer.specs.Back.{FitsLimits, HasCells, WrittenReadsBack}
+use Rattle.writer.specs.declared.fault.WriteFault.TheVariants.{Cramped}
+use Rattle.writer.specs.Back.{FitsLimits, HasCells, ReadsBack, WrittenReadsBack}
+use Rattle.writer.specs.Into.{fits, laid, answer, filled}
 use Rattle.writer.specs.Written.{block_line, clause_line, greatest, written}
 use Rattle.writer.proofs.Descents.{down_reverse, counting_one_push}
 use Rattle.writer.proofs.Matrices.{back, back_back, length_back, total_back, clauses_back}
@@ -111,3 +114,12 @@ module _ (m : Meaning) (h : Formed m) where
 
 pub written_reads_back : WrittenReadsBack
 written_reads_back m h few S cells = reads m h few S cells
+
+-- whether or not it fits a buffer, what was written there reads back
+either_way : (m : Meaning) → Formed m → (out : List ℕ) (b : Bool) →
+    ReadsBack (cond b (Ok (length (written m))) (Err Cramped)) (cond b (laid (written m) out) out) m
+either_way m h out true = rw take-append_seam (written_reads_back m h)
+either_way m h out false = tt
+
+pub reads_back : (m : Meaning) → Formed m → (out : List ℕ) → ReadsBack (answer (written m) out) (filled (written m) out) m
+reads_back m h out = either_way m h out (fits (written m) out)

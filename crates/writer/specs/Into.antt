@@ -1,5 +1,5 @@
 -- What a call gives that writes a text into a lent buffer.
-use Rattle.std.specs.Prelude.{ℕ, Bool, cond, List, ◌++◌, length, drop, Ok, Err, Result, nat_le}
+use Rattle.std.specs.Prelude.{◌≡◌, ℕ, ◌≤◌, Bool, true, cond, List, ◌++◌, length, drop, Ok, Err, Result, is_ok, IfOk, nat_le}
 use Rattle.writer.specs.declared.fault.WriteFault.{WriteFault}
 use Rattle.writer.specs.declared.fault.WriteFault.TheVariants.{Cramped}
 
@@ -22,3 +22,7 @@ answer bytes buffer = cond (fits bytes buffer) (Ok (length bytes)) (Err Cramped)
 -- what the buffer holds then: it is as before where the text does not fit
 abbrev pub filled : List ℕ → List ℕ → List ℕ
 filled bytes buffer = cond (fits bytes buffer) (laid bytes buffer) buffer
+
+-- a buffer of so many bytes is long enough; what is written lies within the buffer
+abbrev pub RoomFor : ℕ → List ℕ → Result ℕ WriteFault → Type 0
+RoomFor most out r = (most ≤ length out → is_ok r ≡ true) × IfOk r (λ len. len ≤ length out)

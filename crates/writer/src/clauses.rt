@@ -4,54 +4,40 @@ ghost use Rattle.calculus.specs.Meaning.{clause_of};
 ghost use Rattle.writer.specs.Pen.{Put};
 ghost use Rattle.writer.specs.Written.{sign, literal_text, clause_line};
 
-use crate::pen::{put, put_end, put_number, put_space};
+use crate::pen::Pen;
 use formula::Formula;
 
 // Puts the minus of a negated literal.
-fn put_sign(out: &mut [u8], at: usize, literal: u16) -> usize
-    ensures { Put (sign literal) out.old at out.new result }
+fn put_sign(pen: &mut Pen<'_>, literal: u16)
+    ensures { Put (sign literal) pen.old pen.new }
 {
-    if literal % 2 == 0 {
-        return at;
-    }
-    put(out, at, b'-')
+    pen.put_all(if literal % 2 == 0 { b"" } else { b"-" });
 }
 
 // Puts a literal and a space.
-fn put_literal(out: &mut [u8], at: usize, literal: u16) -> usize
-    ensures { Put (literal_text literal) out.old at out.new result }
+fn put_literal(pen: &mut Pen<'_>, literal: u16)
+    ensures { Put (literal_text literal) pen.old pen.new }
 {
-    let a = put_sign(out, at, literal);
-    let b = put_number(out, a, (literal / 2) as usize);
-    put_space(out, b)
+    put_sign(pen, literal);
+    pen.put_number(usize::from(literal / 2));
+    pen.put_space();
 }
 
 // Puts the literals of clause j.
-fn put_literals<F: Formula>(out: &mut [u8], start: usize, f: &F, j: usize) -> usize
-    ensures { Put (flat_map literal_text (clause_of (F.meaning f.now) j)) out.old start out.new result }
+fn put_literals<F: Formula>(pen: &mut Pen<'_>, f: &F, j: usize)
+    ensures { Put (flat_map literal_text (clause_of (F.meaning f.now) j)) pen.old pen.new }
 {
-    let mut at = start;
     for i in 0..f.clause_len(j) {
-        at = put_literal(out, at, f.literal(j, i));
+        put_literal(pen, f.literal(j, i));
     }
-    at
 }
 
-// Puts the line of clause j: its literals and 0.
-fn put_clause<F: Formula>(out: &mut [u8], at: usize, f: &F, j: usize) -> usize
-    ensures { Put (clause_line (clause_of (F.meaning f.now) j)) out.old at out.new result }
+// Puts a line for each clause: its literals and 0.
+pub(crate) fn put_clauses<F: Formula>(pen: &mut Pen<'_>, f: &F)
+    ensures { Put (flat_map clause_line (F.meaning f.now).clauses) pen.old pen.new }
 {
-    let next = put_literals(out, at, f, j);
-    put_end(out, next)
-}
-
-// Puts a line for each clause.
-pub(crate) fn put_clauses<F: Formula>(out: &mut [u8], start: usize, f: &F) -> usize
-    ensures { Put (flat_map clause_line (F.meaning f.now).clauses) out.old start out.new result }
-{
-    let mut at = start;
     for j in 0..f.clause_count() {
-        at = put_clause(out, at, f, j);
+        put_literals(pen, f, j);
+        pen.put_all(b"0\n");
     }
-    at
 }

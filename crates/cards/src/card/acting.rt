@@ -20,11 +20,7 @@ impl Card {
         requires { v < 32768 }
         ensures { result ≡ image_of (meant self.now) v }
     {
-        if v > 512 {
-            2 * v
-        } else {
-            self.images[v as usize]
-        }
+        self.images.get(usize::from(v)).copied().unwrap_or(2 * v)
     }
 }
 

@@ -1,38 +1,34 @@
-// A call as a value, answered.
-ghost use Rattle.std.specs.Prelude.{◌≡◌};
-ghost use Rattle.case.specs.Answers.{meant_call, meant_reply, claim_reply};
-ghost use Rattle.case.specs.Claimed.{CallRight};
-ghost use Rattle.case.specs.Standing.{standing};
+// A claim and a call as values, answered.
+ghost use Rattle.case.specs.Answers.{line_of, meant_call, meant_reply};
+ghost use Rattle.case.specs.Claimed.{ClaimRight, CallRight};
 
 use super::super::call::{Call, Reply};
+use super::super::claim::Claim;
 use super::super::refusal::Refusal;
 use super::Case;
 use formula::Formula;
 use shelf::Shelf;
 
 impl<F: Formula, S: Shelf> Case<F, S> {
-    // Makes the call.
-    pub fn answer(&mut self, call: Call) -> Reply
-        ensures { CallRight (standing F.meaning S.meaning self.old) (meant_call call) (meant_reply result) (standing F.meaning S.meaning self.new) }
+    // Claims a line; it answers the number of the line, or why it is refused.
+    pub fn claim(&mut self, claim: Claim) -> Result<usize, Refusal>
+        ensures { ClaimRight self.old.standing (line_of claim) result self.new.standing }
     {
-        match call {
-            Call::Axiom(clause) => reply(self.axiom(clause)),
-            Call::Resolution(first, second, variable) => reply(self.resolution(
-                first, second, variable,
-            )),
-            Call::Reduction(line, variable) => reply(self.reduction(line, variable)),
-            Call::Symmetry(line, card) => reply(self.symmetry(line, card)),
-            Call::Verdict => Reply::Verdict(self.verdict()),
+        match claim {
+            Claim::Axiom(clause) => self.axiom(clause),
+            Claim::Resolution(first, second, variable) => self.resolution(first, second, variable),
+            Claim::Reduction(line, variable) => self.reduction(line, variable),
+            Claim::Symmetry(line, card) => self.symmetry(line, card),
         }
     }
-}
 
-// A claim's answer as a reply.
-fn reply(answer: Result<usize, Refusal>) -> Reply
-    ensures { meant_reply result ≡ claim_reply answer }
-{
-    match answer {
-        Ok(line) => Reply::Granted(line),
-        Err(refusal) => Reply::Refused(refusal),
+    // Makes the call.
+    pub fn answer(&mut self, call: Call) -> Reply
+        ensures { CallRight self.old.standing (meant_call call) (meant_reply result) self.new.standing }
+    {
+        match call {
+            Call::Claim(claim) => Reply::Claim(self.claim(claim)),
+            Call::Verdict => Reply::Verdict(self.verdict()),
+        }
     }
 }

@@ -1,9 +1,11 @@
 // A shelf laid over lent memory, and what it has space for.
-ghost use Rattle.std.specs.Prelude.{◌≡◌, ◌+◌, ◌*◌, ◌≤◌, true, ◌↔◌, [], length};
+ghost use Rattle.std.specs.Prelude.{◌≡◌, true, ◌↔◌, [], length};
 ghost use Rattle.laws.specs.Store.{Space};
+ghost use Rattle.shelf.specs.Stores.{store_of};
 ghost use Rattle.cells.specs.Meant.{meant, cell_store};
 
 use super::CellShelf;
+use shelf::Store;
 
 impl<'a> CellShelf<'a> {
     // The empty shelf over the cells, whatever they hold and however many there are.
@@ -23,13 +25,17 @@ impl<'a> CellShelf<'a> {
     pub fn has_space(&self, clauses: usize, literals: usize) -> bool
         ensures { (result ≡ true) ↔ Space (meant self.now).store clauses literals }
     {
-        clauses <= 8192 && bears(self.cells.len(), clauses, literals)
+        self.store().has_space(clauses, literals)
     }
-}
 
-// Whether so many lines of so many codes each take no more than the capacity. A product could be too large, a quotient is not.
-fn bears(capacity: usize, lines: usize, codes: usize) -> bool
-    ensures { (result ≡ true) ↔ (lines * (1 + 1 * codes) ≤ capacity) }
-{
-    lines == 0 || codes < capacity / lines
+    // How much the cells can bear: a clause takes one, and each of its literals one more.
+    pub(super) fn store(&self) -> Store
+        ensures { store_of result ≡ (meant self.now).store }
+    {
+        Store {
+            capacity: self.cells.len(),
+            base: 1,
+            rate: 1,
+        }
+    }
 }

@@ -23,10 +23,7 @@ impl<'a> Shelf for CellShelf<'a> {
     }
 
     fn look(&self, line: usize, place: &mut [u16; 512]) -> Result<usize, ShelfFault> {
-        if line >= self.count {
-            return Err(ShelfFault::Absent);
-        }
-        let codes = self.line(line);
+        let codes = self.line(line).ok_or(ShelfFault::Absent)?;
         place[..codes.len()].copy_from_slice(codes);
         Ok(codes.len())
     }

@@ -16,17 +16,9 @@ impl<F: Formula> Image<F> {
         ensures { MatchResult result (λ x. Admissible (F.meaning below) (meant card) × (formula_in F.meaning x ≡ imaged (meant card) (F.meaning below))) (λ e. (Admissible (F.meaning below) (meant card) → ⊥) × (e.below ≡ below)) }
     {
         if is_admissible(&below, &card) {
-            Ok(Image::through(below, card))
+            Ok(Image { below, card })
         } else {
             Err(Inadmissible { below })
         }
-    }
-
-    // The formula seen through an admissible card.
-    fn through(below: F, card: Card) -> Image<F>
-        requires { Admissible (F.meaning below) (meant card) }
-        ensures { formula_in F.meaning result ≡ imaged (meant card) (F.meaning below) }
-    {
-        Image { below, card }
     }
 }

@@ -15,24 +15,19 @@ impl<'a> Shelf for RowShelf<'a> {
     }
 
     fn keep(&mut self, clause: Clause<'_>) -> Result<usize, ShelfFault> {
-        let line = self.taken();
-        if line < 8192 && line < self.words.len() / 16 {
-            self.push(&set_of(clause));
-            Ok(line)
-        } else {
-            Err(ShelfFault::Full)
+        if !self.has_room(clause.codes()) {
+            return Err(ShelfFault::Full);
         }
+        Ok(self.push(set_of(clause)))
     }
 
     fn look(&self, line: usize, place: &mut [u16; 512]) -> Result<usize, ShelfFault> {
-        if line < self.taken() {
-            Ok(self.copy_line(line, place))
-        } else {
-            Err(ShelfFault::Absent)
-        }
+        let literals = self.literals(line).ok_or(ShelfFault::Absent)?;
+        Ok(literals.codes(place))
     }
 
+    #[tactic(auto, using(crate::proofs::Lines::counted))]
     fn count(&self) -> usize {
-        self.taken()
+        self.count
     }
 }

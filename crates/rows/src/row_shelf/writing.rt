@@ -1,46 +1,43 @@
 // One row more.
-ghost use Rattle.std.specs.Prelude.{◌≡◌, ◌/◌, ◌<◌, [], ◌∷◌, ◌++◌, length};
-ghost use Rattle.calculus.specs.Literals.{Tautological};
+ghost use Rattle.std.specs.Prelude.{◌≡◌, true, ◌↔◌, [], ◌∷◌, ◌++◌, length};
+ghost use Rattle.laws.specs.Store.{Room};
 ghost use Rattle.shelf.specs.Shelved.{holding};
 ghost use Rattle.sets.specs.Members.{members};
 ghost use Rattle.rows.specs.Held.{shelf_in};
-ghost use Rattle.rows.specs.Rows.{Copied};
 
 use super::RowShelf;
-use sets::LiteralSet;
+use sets::{ClauseSet, LiteralSet};
 use shelf::Clause;
 
 impl<'a> RowShelf<'a> {
-    // Keeps a set, in which no literal comes with its negation, in the next row.
-    pub(crate) fn push(&mut self, set: &LiteralSet)
-        requires few { self.old.count < 8192 }
-        requires room { self.old.count < length self.old.words.now / 16 }
-        requires proper { Tautological (members set.now.words) → ⊥ }
-        ensures { shelf_in self.new ≡ holding (shelf_in self.old) ((shelf_in self.old).kept ++ (members set.now.words ∷ [])) }
+    // Whether there is room for a clause.
+    #[tactic(auto, using(shelf::proofs::Rooms::room_is, crate::proofs::Lines::counted, crate::proofs::Lines::weighs))]
+    pub(super) fn has_room(&self, codes: &[u16]) -> bool
+        ensures { (result ≡ true) ↔ Room (shelf_in self.now).store (shelf_in self.now).kept codes.now }
     {
-        let line = self.count;
-        self.copy_row(set);
-        self.count = line + 1;
+        self.store().has_room(self.count, self.count, codes.len())
     }
 
-    // Copies words into the row after the clauses kept.
-    fn copy_row(&mut self, set: &LiteralSet)
-        requires { self.old.count < length self.old.words.now / 16 }
-        ensures count { self.new.count ≡ self.old.count }
-        ensures copied { Copied self.old.words.now self.new.words.now set.now.words self.old.count }
+    // Keeps a clause that there is room for in the next row, and answers its line.
+    #[tactic(auto, using(crate::proofs::Lines::counted, crate::proofs::Lines::weighs, crate::proofs::Lines::length_written, crate::proofs::Lines::row_more, crate::proofs::Lines::proper_more))]
+    pub(super) fn push(&mut self, clause: ClauseSet) -> usize
+        requires { Room (shelf_in self.old).store (shelf_in self.old).kept (members clause.literals.words) }
+        ensures line { result ≡ length (shelf_in self.old).kept }
+        ensures kept { shelf_in self.new ≡ holding (shelf_in self.old) ((shelf_in self.old).kept ++ (members clause.literals.words ∷ [])) }
     {
-        let row = set.words();
-        let at = 16 * self.count;
-        for i in 0..16 {
-            self.words[at + i] = row[i];
-        }
+        let line = self.count;
+        // By words, since the contract of `as_chunks_mut` does not say what the slice ends as.
+        let at = 16 * line;
+        self.words[at..at + 16].copy_from_slice(&clause.literals().words());
+        self.count = line + 1;
+        line
     }
 }
 
 // The set of a clause's literals.
-pub(crate) fn set_of(clause: Clause<'_>) -> LiteralSet
-    ensures codes { members result.words ≡ clause.entry.codes.now }
-    ensures proper { Tautological (members result.words) → ⊥ }
+pub(super) fn set_of(clause: Clause<'_>) -> ClauseSet
+    ensures { members result.literals.words ≡ clause.entry.codes.now }
 {
-    LiteralSet::of(clause.codes()).unwrap()
+    let literals = LiteralSet::of(clause.codes()).unwrap();
+    ClauseSet::try_from(literals).unwrap()
 }

@@ -6,15 +6,15 @@ ghost use Rattle.laws.specs.Claims.{insert};
 ghost use Rattle.sets.specs.Members.{members};
 
 use super::LiteralSet;
-use super::bits::is_literal;
-use super::words::blank;
+use super::bits::Literal;
 
 impl LiteralSet {
     // The set with no literal.
+    #[tactic(auto, using(crate::proofs::Sorted::no_members))]
     pub fn new() -> LiteralSet
         ensures { members result.words ≡ [] }
     {
-        LiteralSet::from_words(blank())
+        LiteralSet { words: [0; 16] }
     }
 
     // Puts a literal into the set, and answers whether the code is one; else the set stays.
@@ -23,25 +23,20 @@ impl LiteralSet {
         ensures added { result ≡ true → members self.new.words ≡ insert code (members self.old.words) }
         ensures kept { result ≡ false → self.new.words ≡ self.old.words }
     {
-        let literal = is_literal(code);
-        if literal {
-            self.add(code);
+        match Literal::of(code) {
+            Some(literal) => {
+                self.add(literal);
+                true
+            }
+            None => false,
         }
-        literal
-    }
-
-    // Puts a literal into the set.
-    pub(super) fn add(&mut self, code: u16)
-        requires { Code 512 code }
-        ensures { members self.new.words ≡ insert code (members self.old.words) }
-    {
-        self.set_bit(code);
     }
 
     // Whether the code is in the set.
+    #[tactic(auto, using(crate::proofs::Elements::has_literal, crate::proofs::Elements::has_none))]
     pub fn contains(&self, code: u16) -> bool
         ensures { result ≡ has code (members self.now.words) }
     {
-        is_literal(code) && self.has_bit(code)
+        Literal::of(code).is_some_and(|literal| self.has_bit(literal))
     }
 }

@@ -5,7 +5,6 @@ ghost use Rattle.sets.specs.Members.{members};
 ghost use Rattle.sets.specs.Steps.{Written};
 
 use super::LiteralSet;
-use super::bits::first_code;
 
 impl LiteralSet {
     // Writes the codes in ascending order as far as the cells go, and answers how many the set has.
@@ -14,8 +13,8 @@ impl LiteralSet {
         ensures written { out.new ≡ laid (members self.now.words) out.old }
     {
         let mut n = 0;
-        for i in 0..16 {
-            if self.words[i] != 0 {
+        for (i, word) in self.words.iter().enumerate() {
+            if *word != 0 {
                 n = self.lay_word(i, out, n);
             }
         }
@@ -29,7 +28,7 @@ impl LiteralSet {
         ensures { (cells : List ℕ) → Written self.now.words cells (64 * i) n out.old → Written self.now.words cells (64 * (i + 1)) result out.new }
     {
         let word = self.words[i];
-        let first = first_code(i);
+        let first = 64 * (i as u16) + 2;
         let mut end = n;
         for b in 0..64u16 {
             if (word >> b) % 2 == 1 {

@@ -6,6 +6,7 @@ ghost use Rattle.laws.specs.Claims.{sorted};
 ghost use Rattle.sets.specs.Members.{members};
 
 use super::LiteralSet;
+use super::bits::Literal;
 use formula::Formula;
 
 impl LiteralSet {
@@ -15,9 +16,7 @@ impl LiteralSet {
     {
         let mut set = LiteralSet::new();
         for code in codes {
-            if !set.insert(*code) {
-                return None;
-            }
+            set.add(Literal::of(*code)?);
         }
         Some(set)
     }
@@ -28,7 +27,7 @@ impl LiteralSet {
     {
         let mut clause = LiteralSet::new();
         for i in 0..f.clause_len(j) {
-            clause.add(f.literal(j, i));
+            clause.insert(f.literal(j, i));
         }
         clause
     }

@@ -1,5 +1,5 @@
 // The words of a set, as they stand.
-ghost use Rattle.std.specs.Prelude.{◌≡◌, replicate};
+ghost use Rattle.std.specs.Prelude.{◌≡◌};
 
 use super::LiteralSet;
 
@@ -10,18 +10,13 @@ impl LiteralSet {
     {
         self.words
     }
-
-    // The set that the words hold.
-    pub fn from_words(words: [u64; 16]) -> LiteralSet
-        ensures { result.words ≡ words }
-    {
-        LiteralSet { words }
-    }
 }
 
-// Words with no bit set.
-pub(super) fn blank() -> [u64; 16]
-    ensures { result ≡ replicate 16 0 }
-{
-    [0; 16]
+// The set that the words hold.
+impl From<[u64; 16]> for LiteralSet {
+    ghost from_gives = { λ words set. set.words ≡ words };
+
+    fn from(words: [u64; 16]) -> LiteralSet {
+        LiteralSet { words }
+    }
 }

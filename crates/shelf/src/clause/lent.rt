@@ -5,6 +5,7 @@ ghost use Rattle.shelf.specs.Proper.{Proper, LongestFront};
 use super::Clause;
 
 // How many codes the longest front has that is a clause: variables from 1 to 512, each above the one before.
+// A loop, since of a chain (each code zipped with the one before, and `position`) no proof is found of which place it answers.
 fn proper_len(codes: &[u16]) -> usize
     ensures within { result ≤ length codes.now }
     ensures proper { ∥ Proper (take result codes.now) ∥₁ }

@@ -1,25 +1,22 @@
 // A table is laid over any cells; those that do not fit its outline hold no clause.
 ghost use Rattle.std.specs.Prelude.{◌≡◌, ◌≤◌, true, length, take};
-ghost use Rattle.text.specs.Cells.{code, codes, lies, fits, cuts, clauses_in, meant};
+ghost use Rattle.text.specs.Cells.{lies, fits, cuts, clauses_in, meant};
 ghost use Rattle.text.specs.Tables.{formula_in};
 
 use super::super::outline::Outline;
+use super::super::prefix::Prefix;
 use super::Table;
+use std::iter;
 
 impl<'a> Table<'a> {
     // The formula of an outline whose clauses lie in these cells.
     pub fn over(outline: Outline, literals: &'a [u16], ends: &'a [u16]) -> Table<'a>
-        ensures { formula_in result ≡ meant outline.n outline.clauses outline.levels outline.quantifiers literals.now ends.now }
+        ensures { formula_in result ≡ meant outline literals.now ends.now }
     {
-        let n = outline.n;
-        let levels = outline.levels;
-        let quantifiers = outline.quantifiers;
-        let count = fitting(n, outline.clauses, literals, ends);
+        let count = fitting(&outline, literals, ends);
         Table {
-            n,
+            prefix: outline.prefix,
             count,
-            levels,
-            quantifiers,
             literals,
             ends,
         }
@@ -27,62 +24,38 @@ impl<'a> Table<'a> {
 }
 
 // How many clauses lie in the cells: so many as asked for if these fit, else none.
-fn fitting(n: usize, count: usize, literals: &[u16], ends: &[u16]) -> usize
-    requires { n ≤ 512 }
-    ensures asked { result ≤ count }
+#[tactic(auto, using(crate::proofs::Spans::listed))]
+fn fitting(outline: &Outline, literals: &[u16], ends: &[u16]) -> usize
+    ensures asked { result ≤ outline.now.clauses }
     ensures held { result ≤ length ends.now }
     ensures listed { length (cuts literals.now 0 (take result ends.now)) ≡ result }
-    ensures fit { fits n literals.now 0 (take result ends.now) ≡ true }
-    ensures clauses { cuts literals.now 0 (take result ends.now) ≡ clauses_in n count literals.now ends.now }
+    ensures fit { fits outline.now.prefix.n literals.now 0 (take result ends.now) ≡ true }
+    ensures clauses { cuts literals.now 0 (take result ends.now) ≡ clauses_in outline.now.prefix.n outline.now.clauses literals.now ends.now }
 {
-    if count <= ends.len() && all_lie(n, literals, &ends[..count]) {
-        count
-    } else {
-        0
+    match ends.get(..outline.clauses) {
+        Some(used) if all_lie(&outline.prefix, literals, used) => outline.clauses,
+        _ => 0,
     }
 }
 
 // Whether the clauses between running ends lie in the cells, one after the other.
-fn all_lie(n: usize, literals: &[u16], ends: &[u16]) -> bool
-    requires { n ≤ 512 }
-    ensures { result ≡ fits n literals.now 0 ends.now }
+fn all_lie(prefix: &Prefix, literals: &[u16], ends: &[u16]) -> bool
+    ensures { result ≡ fits prefix.now.n literals.now 0 ends.now }
 {
-    let mut from = 0;
-    for end in ends {
-        let end = *end as usize;
-        if !clause_lies(n, literals, from, end) {
-            return false;
-        }
-        from = end;
+    iter::once(0).chain(ends.iter().copied()).zip(ends).all(|(from, end)| clause_lies(
+        prefix,
+        literals,
+        usize::from(from),
+        usize::from(*end),
+    ))
+}
+
+// Whether a clause over the variables lies from one end to the next.
+fn clause_lies(prefix: &Prefix, literals: &[u16], from: usize, end: usize) -> bool
+    ensures { result ≡ lies prefix.now.n literals.now from end }
+{
+    match literals.get(from..end) {
+        Some(clause) => clause.len() <= 1024 && prefix.spans(clause),
+        None => false,
     }
-    true
-}
-
-// Whether a clause over the variables 1 to n lies from one end to the next.
-fn clause_lies(n: usize, literals: &[u16], from: usize, end: usize) -> bool
-    requires { n ≤ 512 }
-    ensures { result ≡ lies n literals.now from end }
-{
-    from <= end && end <= literals.len() && end - from <= 1024 && all_codes(n, &literals[from..end])
-}
-
-// Whether each of the codes is one of a literal over the variables 1 to n.
-fn all_codes(n: usize, clause: &[u16]) -> bool
-    requires { n ≤ 512 }
-    ensures { result ≡ codes n clause.now }
-{
-    for l in clause {
-        if !is_code(n, *l as usize) {
-            return false;
-        }
-    }
-    true
-}
-
-// Whether a code is one of a literal over the variables 1 to n.
-fn is_code(n: usize, l: usize) -> bool
-    requires { n ≤ 512 }
-    ensures { result ≡ code n l }
-{
-    2 <= l && l < 2 * (n + 1)
 }

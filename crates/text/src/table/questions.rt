@@ -1,27 +1,29 @@
 // The six questions, answered from a table's cells.
-ghost use Rattle.std.specs.Prelude.{◌≡◌, ◌<◌, ◌≤◌, ◌∷◌, length, slice_index};
+ghost use Rattle.std.specs.Prelude.{◌≡◌, ◌<◌, ◌≤◌, ◌∷◌, [], length, slice_index, MatchOption};
 ghost use Rattle.calculus.specs.Meaning.{clause_of};
 ghost use Rattle.text.specs.Cells.{cut};
 ghost use Rattle.text.specs.Tables.{formula_in, formula_formed};
 
 use super::Table;
-use formula::Formula;
+use formula::{Formula, Quantifier};
+use std::ops::Range;
 
+// A table has no model: as a trait's value it would be any meaning, and the law below holds of those alone that a table's fields give.
 impl<'a> Formula for Table<'a> {
     ghost meaning = { formula_in };
 
     ghost formed = { formula_formed };
 
     fn variable_count(&self) -> usize {
-        self.n
+        self.prefix.n
     }
 
     fn level(&self, v: usize) -> u16 {
-        at(&self.levels[..self.n + 1], v)
+        self.prefix.level(v)
     }
 
-    fn quantifier(&self, v: usize) -> u16 {
-        at(&self.quantifiers[..self.n + 1], v)
+    fn quantifier(&self, v: usize) -> Option<Quantifier> {
+        self.prefix.quantifier(v)
     }
 
     fn clause_count(&self) -> usize {
@@ -33,7 +35,7 @@ impl<'a> Formula for Table<'a> {
     }
 
     fn literal(&self, j: usize, i: usize) -> u16 {
-        at(self.clause(j), i)
+        self.clause(j).get(i).copied().unwrap_or(0)
     }
 }
 
@@ -42,35 +44,32 @@ impl<'a> Table<'a> {
     fn clause(&self, j: usize) -> &[u16]
         ensures { result.now ≡ clause_of (formula_in self.now) j }
     {
-        let (from, end) = self.span(j);
-        &self.literals[from..end]
-    }
-
-    // Where clause j lies: from its start to its end; nowhere, where there is no such clause.
-    fn span(&self, j: usize) -> (usize, usize)
-        ensures ordered { result.0 ≤ result.1 }
-        ensures within { result.1 ≤ length self.now.literals.now }
-        ensures lies { clause_of (formula_in self.now) j ≡ cut self.now.literals.now result.0 result.1 }
-    {
-        if j < self.count {
-            (self.start(j), self.ends[j] as usize)
-        } else {
-            (0, 0)
+        match self.span(j) {
+            Some(span) => &self.literals[span],
+            None => &[],
         }
     }
 
-    // Where clause j starts: at the end before it, the first at 0.
+    // Where clause j lies; None where there is no such clause.
+    fn span(&self, j: usize) -> Option<Range<usize>>
+        ensures { MatchOption result (clause_of (formula_in self.now) j ≡ []) (λ r. (r.start ≤ r.end) × (r.end ≤ length self.now.literals.now) × (clause_of (formula_in self.now) j ≡ cut self.now.literals.now r.start r.end)) }
+    {
+        if j < self.count {
+            Some(self.start(j)..usize::from(self.ends[j]))
+        } else {
+            None
+        }
+    }
+
+    // Where clause j starts: at the end before it, the first at 0. (`checked_sub` and `map_or` would say the same in more words.)
     fn start(&self, j: usize) -> usize
         requires { j < self.now.count }
         ensures { result ≡ slice_index (0 ∷ self.now.ends.now) j }
     {
-        if j == 0 { 0 } else { self.ends[j - 1] as usize }
+        if j == 0 {
+            0
+        } else {
+            usize::from(self.ends[j - 1])
+        }
     }
-}
-
-// What stands at place i; 0 past the end.
-fn at(cells: &[u16], i: usize) -> u16
-    ensures { result ≡ slice_index cells.now i }
-{
-    if i < cells.len() { cells[i] } else { 0 }
 }

@@ -1,44 +1,27 @@
 // Reading on.
-ghost use Rattle.std.specs.Prelude.{◌≡◌, ℕ, ◌<◌, ◌≤◌, not, [], ◌∷◌, length, IfSome, IfNone, MatchOption};
+ghost use Rattle.std.specs.Prelude.{◌≡◌, ℕ, ◌≤◌, [], length, MatchOption};
 ghost use Rattle.std.specs.List.{prefix_len};
+ghost use Rattle.std.specs.Iterator.{item_count};
 ghost use Rattle.words.specs.Words.{blank, lexemes};
-ghost use Rattle.words.specs.Rest.{lexemes_from, First, rest, text_of};
+ghost use Rattle.words.specs.Rest.{in_run, lexemes_from, First, Gives};
 
 use super::super::comments::first_word;
-use super::super::spelling::token_of;
-use super::super::token::Lexeme;
+use super::super::token::{Lexeme, Token};
 use super::Words;
 
+// Whether the byte parts words.
 fn is_blank(b: u8) -> bool
     ensures { result ≡ blank b }
 {
-    matches!(b as char, '\t' | '\n' | '\r' | ' ')
+    matches!(char::from(b), '\t' | '\n' | '\r' | ' ')
 }
 
-// How many blanks stand in front.
-fn blank_run(s: &[u8]) -> usize
-    ensures value { result ≡ prefix_len blank s.now }
+// How many bytes stand in front that are blank, or that are not.
+fn run(s: &[u8], blanks: bool) -> usize
+    ensures value { result ≡ prefix_len (in_run blanks) s.now }
     ensures bound { result ≤ length s.now }
 {
-    for (i, b) in s.iter().enumerate() {
-        if !is_blank(*b) {
-            return i;
-        }
-    }
-    s.len()
-}
-
-// How many bytes of a word stand in front.
-fn solid_run(s: &[u8]) -> usize
-    ensures value { result ≡ prefix_len (λ b. not (blank b)) s.now }
-    ensures bound { result ≤ length s.now }
-{
-    for (i, b) in s.iter().enumerate() {
-        if is_blank(*b) {
-            return i;
-        }
-    }
-    s.len()
+    s.iter().take_while(|b| is_blank(**b) == blanks).count()
 }
 
 // The first word that begins at the offset or later, and the offset behind it.
@@ -46,44 +29,39 @@ fn word_from(text: &[u8], at: usize) -> Option<(Lexeme, usize)>
     requires { at ≤ length text.now }
     ensures { MatchOption result (lexemes_from at text.now ≡ []) (λ x. First at text.now x.0 x.1) }
 {
-    let (_, tail) = text.split_at(at);
-    let skip = blank_run(tail);
-    let (_, front) = tail.split_at(skip);
-    let n = solid_run(front);
-    if n == 0 {
+    let place = at + run(&text[at..], true);
+    let end = place + run(&text[place..], false);
+    if place == end {
         return None;
     }
-    let (word, _) = front.split_at(n);
-    let place = at + skip;
-    let token = token_of(word);
-    Some((Lexeme { place, token }, place + n))
+    let token = Token::from(&text[place..end]);
+    Some((Lexeme { place, token }, end))
 }
 
 impl<'a> Words<'a> {
     // All the words of a text.
     pub fn new(text: &'a [u8]) -> Words<'a>
-        ensures words { rest result ≡ lexemes text.now }
-        ensures text { text_of result ≡ text.now }
+        ensures words { result.left ≡ lexemes text.now }
+        ensures text { result.text ≡ text.now }
     {
         Words {
             text,
             at: first_word(text),
         }
     }
+}
+
+impl<'a> Iterator for Words<'a> {
+    type Item = Lexeme;
+
+    ghost next_gives = { Gives };
+
+    ghost remaining = { item_count (λ w. w.left) };
 
     // The next word; None where no word is left.
-    pub fn next_word(&mut self) -> Option<Lexeme>
-        ensures words { MatchOption result (rest self.old ≡ []) (λ l. rest self.old ≡ l ∷ rest self.new) }
-        ensures over { IfNone result (rest self.new ≡ []) }
-        ensures place { IfSome result (λ l. l.place < length (text_of self.old)) }
-        ensures text { text_of self.new ≡ text_of self.old }
-    {
-        match word_from(self.text, self.at) {
-            None => None,
-            Some((lexeme, end)) => {
-                self.at = end;
-                Some(lexeme)
-            }
-        }
+    fn next(&mut self) -> Option<Lexeme> {
+        let (lexeme, end) = word_from(self.text, self.at)?;
+        self.at = end;
+        Some(lexeme)
     }
 }

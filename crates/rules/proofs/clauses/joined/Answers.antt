@@ -1,5 +1,5 @@
-use Rattle.rules.proofs.clauses.joined.Goals as goal
 use Rattle.rules.proofs.Outcomes.{joined_list, joined_is}
+use Rattle.rules.proofs.clauses.joined.Goals as goal
 
 pub returns : goal.returns
 returns c =

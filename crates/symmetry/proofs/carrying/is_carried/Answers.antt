@@ -10,5 +10,5 @@ use Rattle.symmetry.proofs.carrying.is_carried.Goals as goal
 pub returns : goal.returns
 returns g c =
     let m = g.F.Formula.meaning c.args.f.now in
-    let s = among_sorted m (members c.image_set-image.result.words) (map (act (meant c.args.card.now)) (clause_of m c.args.j)) c.image_set-image.ensures in
+    let s = among_sorted m (members c.image_set.result.words) (map (act (meant c.args.card.now)) (clause_of m c.args.j)) c.image_set.ensures in
     Decides-like c.has_clause.result s.0 s.1 c.has_clause.ensures

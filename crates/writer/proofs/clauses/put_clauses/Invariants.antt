@@ -5,4 +5,4 @@ use Rattle.writer.specs.Written.{clause_line}
 use Rattle.writer.proofs.clauses.put_clauses.Given as goal
 
 abbrev pub invariant-loop-j : goal.invariant-loop-j
-invariant-loop-j g l = Put (flat_map clause_line (take l.j (g.F.Formula.meaning l.f).clauses)) l.initial.out l.start l.out l.at
+invariant-loop-j g l = Put (flat_map clause_line (take l.j (g.F.Formula.meaning l.f).clauses)) l.initial.pen l.pen

@@ -7,7 +7,7 @@ use Rattle.writer.proofs.clauses.put_literals.Goals as goal
 pub loop-i-preserved : goal.loop-i-preserved
 loop-i-preserved g c =
     put_more literal_text (clause_of (g.F.Formula.meaning c.args.f.now) c.args.j) c.loop-i.i 0 (omega arith) c.loop-i.invariant
-    (put_as (ap literal_text c.literal.ensures) c.put_literal-at.ensures)
+    (put_as (ap literal_text c.literal.ensures) c.put_literal.ensures)
 
 pub returns : goal.returns
 returns g c =

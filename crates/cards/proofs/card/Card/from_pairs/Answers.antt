@@ -10,13 +10,13 @@ returns-in_err-judged c =
     rw (p.1, p.2) (refused _ _ _ _ _ _ c.loop-k.invariant _ (omega arith) c.in_err-judged.ensures)
 
 pub loop-k-preserved : goal.loop-k-preserved
-loop-k-preserved c = step_to _ _ _ _ _ _ c.loop-k.invariant _ _ c.mark.ensures c.mark-in-loop-k.ensures c.in_ok-judged.ensures
+loop-k-preserved c = step_to _ _ _ _ _ _ c.loop-k.invariant _ _ _ c.from.ensures c.mark.ensures c.mark-in-loop-k.ensures c.in_ok-judged.ensures
 
 pub returns-in-Some : goal.returns-in-Some
 returns-in-Some c = unnamed _ _ _ _ _ _ c.loop-k.invariant (omega arith) _ c.in-Some.ensures
 
 pub with_images-requires : goal.with_images-requires
-with_images-requires c = permuted _ _ _ _ _ _ c.loop-k.invariant (omega arith) c.in_default.ensures
+with_images-requires c = permuted _ _ _ _ _ _ c.loop-k.invariant (omega arith) c.in-None.ensures
 
-pub returns : goal.returns
-returns c = makes _ _ _ _ _ _ c.loop-k.invariant (omega arith) c.in_default.ensures (meant c.with_images.result) c.with_images.ensures
+pub returns-in-None : goal.returns-in-None
+returns-in-None c = makes _ _ _ _ _ _ c.loop-k.invariant (omega arith) c.in-None.ensures (meant c.with_images.result) c.with_images.ensures

@@ -1,6 +1,6 @@
-use Rattle.std.proofs.Common.{arith, rules}
-use Rattle.cards.proofs.Marks.{doubles}
+use Rattle.std.proofs.Common.{◌*◌, rules}
+use Rattle.cards.proofs.Calls.{from_calls}
 use Rattle.cards.proofs.card.making.unmoved.Goals as goal
 
-pub loop-v-preserved : goal.loop-v-preserved
-loop-v-preserved c = (search rules, doubles c.loop-v.images c.loop-v.v (omega arith) c.loop-v.invariant.1)
+pub returns : goal.returns
+returns c = from_calls _ (λ i. 2 * i) _ (λ i y q k. search rules) _ 0 513 c.from_fn.ensures.items

@@ -1,5 +1,6 @@
+use Rattle.std.proofs.Common.{ap}
 use Rattle.case.proofs.Fetching.{fetched}
 use Rattle.case.proofs.case.Case.fetch.Goals as goal
 
-pub returns-in-Ok : goal.returns-in-Ok
-returns-in-Ok g c = fetched (g.S.Shelf.meaning c.args.self.now.shelf) c.args.line _ _ _ c.in-Ok.ensures
+pub returns : goal.returns
+returns g c = fetched _ _ (ap (λ v. v.standing.shelf) c.self.view_is) (g.S.Shelf.sound c.self.inside.shelf) _ _ _ _ _ c.in_ok-len.ensures c.front.ensures

@@ -1,9 +1,9 @@
-use Rattle.laws.specs.Lines.{reduction}
-use Rattle.case.specs.Standing.{standing}
-use Rattle.case.proofs.Claims.{claim_right}
+use Rattle.std.proofs.lemmas.Result.{err_from_is_err_and}
+use Rattle.case.proofs.Settling.{claim_kept, claim_refused}
 use Rattle.case.proofs.case.Case.reduction.Goals as goal
 
+pub returns-in_err-clause : goal.returns-in_err-clause
+returns-in_err-clause g c = let p = err_from_is_err_and c.from_residual.result c.from_residual.ensures.1 in rw (p.1, p.2) (claim_refused _ _ _ c.in_err-clause.ensures)
+
 pub returns : goal.returns
-returns g c =
-    let line = reduction c.args.line c.args.variable in
-    claim_right (standing g.F.Formula.meaning g.S.Shelf.meaning c.args.self.now) line _ _ (c.settle.ensures line c.reduction_clause-yielded.ensures)
+returns g c = claim_kept _ _ c.in_ok-clause.clause c.in_ok-clause.ensures _ _ c.keep.ensures

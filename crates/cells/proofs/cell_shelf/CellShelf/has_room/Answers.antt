@@ -1,9 +1,7 @@
 -- Room, in numbers of cells.
-use Rattle.cells.proofs.Rooms.{room_is}
+use Rattle.shelf.proofs.Rooms.{room_is}
+use Rattle.cells.proofs.Rooms.{weighs}
 use Rattle.cells.proofs.cell_shelf.CellShelf.has_room.Goals as goal
 
 pub returns : goal.returns
-returns c =
-    let both = room_is c.args.self.now c.args.codes.now in
-    let free = c.can_hold.ensures in
-    (λ r. both.0 (free.0 r), λ room. free.1 (both.1 room))
+returns c = room_is _ _ _ c.args.codes.now _ _ _ c.store.ensures c.args.self.now.counted (weighs c.args.self.now) c.has_room.ensures

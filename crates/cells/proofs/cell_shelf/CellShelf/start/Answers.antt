@@ -1,10 +1,6 @@
--- What lies at a line's start.
-use Rattle.cells.proofs.Places.{ends, size, codes, short}
+-- A line that is kept lies where the index says.
+use Rattle.cells.proofs.Places.{start_found}
 use Rattle.cells.proofs.cell_shelf.CellShelf.start.Goals as goal
 
 pub returns : goal.returns
-returns c =
-    let s = c.args.self.now in
-    let p = c.args.line in
-    let there = c.requires in
-    record { ends = ends s p there; size = size s p there; codes = codes s p there; short = short s p there }
+returns c = rw c.copied.ensures (start_found c.args.self.now c.args.line c.get.result c.get.ensures.lookup.3)

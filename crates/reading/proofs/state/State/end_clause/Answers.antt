@@ -9,6 +9,6 @@ returns c t natural none ls d lawful stands =
     let at = sym c.requires ∙ stands.stage in (
       end_fits (sizes ls c.args.ends.now) d at t natural none (sym (c.if-is_early.ensures d ls c.args.ends.now stands)) (omega (arith, c.if-self.false, stands.clauses, stands.m)),
       with_end c.args.self.now _ ls c.args.ends.now
-          (record { stage = refl; n = refl; m = refl; levels = refl; quantifiers = refl; blocks = refl; latest_is = refl; vacant = refl }) t d at natural none
+          (record { stage = refl; n = refl; m = refl; bindings = refl; latest_is = refl }) t d at natural none
           (omega arith) refl refl refl stands,
     )

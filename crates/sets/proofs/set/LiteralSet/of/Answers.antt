@@ -1,24 +1,19 @@
-use Rattle.std.proofs.Common.{refl, ap, ◌∙◌, subst, arith}
-use mathlib.Core.Bool.{false≢true}
+use Rattle.std.proofs.Common.{ap, ◌∙◌, subst, arith}
 use Rattle.std.specs.List.{AllByRecursion}
-use Rattle.std.proofs.ByRecursion.{All-more, All-get_or}
+use Rattle.std.proofs.ByRecursion.{All-more}
 use Rattle.std.proofs.lemmas.List.{take_all}
 use Rattle.calculus.specs.Meaning.{Code}
 use Rattle.laws.specs.Claims.{sorted}
 use Rattle.sets.proofs.Sorted.{sorted_more}
 use Rattle.sets.proofs.set.LiteralSet.of.Goals as goal
 
-pub returns-then-not-insert : goal.returns-then-not-insert
-returns-then-not-insert c =
-    λ a. false≢true (c.if-not-insert.ensures.literal.1 (All-get_or (Code 512) c.args.codes.now c.loop-code.code-index 0 (omega arith) a))
-
 pub loop-code-preserved : goal.loop-code-preserved
 loop-code-preserved c =
     let codes = c.args.codes.now in
     let i = c.loop-code.code-index in
-    let e = c.if-not-insert.ensures in (
-      All-more (Code 512) codes i 0 (omega arith) c.loop-code.invariant.0 (e.literal.0 refl),
-      sorted_more codes _ _ i _ (omega arith) refl c.loop-code.invariant.1 (e.added refl),
+    let l = c.in_ok-of.field-0 in (
+      All-more (Code 512) codes i 0 (omega arith) c.loop-code.invariant.0 (subst (Code 512) c.in_ok-of.ensures l.literal),
+      sorted_more codes _ _ i l.code (omega arith) c.in_ok-of.ensures c.loop-code.invariant.1 c.add.ensures,
     )
 
 pub returns : goal.returns

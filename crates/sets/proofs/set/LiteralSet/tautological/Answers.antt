@@ -1,16 +1,12 @@
-use Rattle.std.proofs.Common.{refl, arith}
-use mathlib.Core.Bool.{false≢true}
-use Rattle.sets.proofs.Pairs.{found, none_found}
+use Rattle.std.proofs.Common.{rules}
+use Rattle.std.proofs.lemmas.Bool.Decides.{Decides-at}
+use Rattle.std.proofs.lemmas.Iterator.{YieldsList-from_slice}
+use Rattle.std.proofs.lemmas.Iterator.Search.{any_from_yields_List}
+use Rattle.sets.proofs.Pairs.{paired, any_pair}
 use Rattle.sets.proofs.set.LiteralSet.tautological.Goals as goal
 
-pub returns-then-both_signs : goal.returns-then-both_signs
-returns-then-both_signs c = (
-  λ _. found c.args.self.now.words c.loop-k.k (omega arith) (omega arith) c.if-both_signs.ensures,
-  λ _. refl,
-)
-
 pub returns : goal.returns
-returns c = (
-  λ e. absurd (false≢true e),
-  λ t. absurd (none_found c.args.self.now.words (λ k h. c.loop-k.invariant k (omega arith)) t),
-)
+returns c =
+    let v = c.args.self.now in
+    Decides-at _ _ (any_from_yields_List paired _ _ _ c.any.ensures.ran (YieldsList-from_slice v.words cc) (λ x b q k. search rules))
+    (any_pair v.words v.long v.small)

@@ -1,9 +1,0 @@
-use Rattle.writer.proofs.Pens.{put_then}
-use Rattle.reports.specs.Lines.{refuted_line}
-use Rattle.reports.proofs.putting.put_refuted.Goals as goal
-
-pub returns : goal.returns
-unfolding refuted_line
-returns c =
-    put_then c.put_all-a.ensures
-    (put_then c.put_number-b.ensures (put_then c.put_all-c.ensures (put_then c.put_number-d.ensures c.put_feed.ensures)))

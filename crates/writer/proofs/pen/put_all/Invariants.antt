@@ -1,6 +1,0 @@
-use Rattle.std.proofs.Common.{take}
-use Rattle.writer.specs.Pen.{Put}
-use Rattle.writer.proofs.pen.put_all.Given as goal
-
-abbrev pub invariant-loop-byte : goal.invariant-loop-byte
-invariant-loop-byte l = Put (take l.byte-index l.bytes) l.initial.out l.start l.out l.at

@@ -1,6 +1,0 @@
-use Rattle.std.proofs.Common.{decimal, ap}
-use Rattle.writer.proofs.Pens.{put_then, put_as}
-use Rattle.writer.proofs.whole.put_header.Goals as goal
-
-pub returns : goal.returns
-returns g c = put_then c.put_all-a.ensures (put_then (put_as (ap decimal c.variable_count.ensures) c.put_number-b.ensures) (put_then c.put_space-c.ensures (put_then (put_as (ap decimal c.clause_count.ensures) c.put_number-d.ensures) c.put.ensures)))
