@@ -3,17 +3,16 @@ use Rattle.std.specs.Prelude.{ℕ, Bool, false, List, [], ◌∷◌, ◌++◌}
 use Rattle.calculus.specs.Meaning.{Meaning}
 use Rattle.laws.specs.Claims.{is_empty}
 use Rattle.shelf.specs.Shelved.{Shelved, holding}
+use Rattle.case.specs.declared.case.Case.{Case}
 
 pub record Standing : Type 0 where
   pub formula : Meaning
   pub refuted : Bool
   pub shelf : Shelved
 
--- a case as contracts see it: where it stands, and the formula and the shelf that it gives back
-pub record Seen (F S : Type 0) : Type 0 where
-  pub standing : Standing
-  pub formula : F
-  pub shelf : S
+-- where a case stands, by the meanings of its formula and its shelf
+abbrev pub standing : {F S : Type 0} → (F → Meaning) → (S → Shelved) → Case F S → Standing
+standing formula shelf c = record { formula = formula c.formula; refuted = c.refuted; shelf = shelf c.shelf }
 
 -- a case as it is opened: nothing is kept
 abbrev pub opened : Meaning → Shelved → Standing

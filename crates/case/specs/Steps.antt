@@ -1,7 +1,8 @@
 -- What the steps of a claim promise: the clause that a line's rule yields, the clause kept, and the clause of an earlier line.
 use Rattle.std.specs.Prelude.{◌≡◌, ℕ, ◌<◌, ◌≤◌, false, List, [], ◌∷◌, length, Result, MatchResult}
 use Rattle.calculus.specs.Literals.{Tautological}
-use Rattle.calculus.specs.Meaning.{Variable}
+use Rattle.calculus.specs.Meaning.{Meaning, Variable}
+use Rattle.laws.specs.Cards.{Card, Admissible, Carries}
 use Rattle.laws.specs.Checks.{Check, conditions, Hold, FailsWith}
 use Rattle.laws.specs.Clauses.{Resolvable}
 use Rattle.laws.specs.Derivations.{line_of}
@@ -28,6 +29,10 @@ rule_checks s (resolution p q v) =
     []
 rule_checks s (reduction p v) = conditions s.formula s.shelf.kept (reduction p v)
 rule_checks s (symmetry p card) = conditions s.formula s.shelf.kept (symmetry p card)
+
+-- those of a card, by itself
+abbrev pub card_checks : Meaning → Card → List Check
+card_checks m card = (36, Admissible m card) ∷ (37, Carries m card) ∷ []
 
 -- the case is open and the rule's conditions hold, and this is the clause of the rule; or the first of these that fails is named
 abbrev pub Yields : Standing → Line → Result ClauseSet Refusal → Type 0

@@ -21,15 +21,15 @@ pub struct Case<F: Formula, S: Shelf> {
     refuted: bool,
 }
 
-// To a contract a case is where it stands, with the formula and the shelf that it gives back. It is refuted exactly if the empty clause is kept.
+// To a contract a case is its fields; where it stands follows from them (`standing`). It is refuted exactly if the empty clause is kept.
 impl<F: Formula, S: Shelf> Model for Case<F, S> {
     ghost use Rattle.std.specs.Prelude.{◌≡◌};
     ghost use Rattle.laws.specs.Claims.{closed};
-    ghost use Rattle.case.specs.Standing.{Seen};
+    ghost use Rattle.case.specs.Seen.{Seen};
 
     ghost Value = { Seen F S };
 
-    ghost view = { λ c. record { standing = record { formula = F.meaning c.formula; refuted = c.refuted; shelf = S.meaning c.shelf }; formula = c.formula; shelf = c.shelf } };
+    ghost view = { λ c. record { formula = c.formula; shelf = c.shelf; refuted = c.refuted } };
 
     ghost invariant = { λ c. c.refuted ≡ closed (S.meaning c.shelf).kept };
 }

@@ -1,5 +1,6 @@
 // A case opened, and a list of calls made on it.
 ghost use Rattle.case.specs.Promise.{RunRight};
+ghost use Rattle.case.specs.Standing.{standing};
 
 use super::call::{Call, Reply};
 use super::case::Case;
@@ -13,7 +14,7 @@ pub fn run<F: Formula, S: Shelf>(
     calls: &[Call],
     replies: &mut [Reply],
 ) -> Case<F, S>
-    ensures { RunRight (S.meaning shelf).store (F.meaning formula) calls.now replies.old replies.new result.standing }
+    ensures { RunRight (S.meaning shelf).store (F.meaning formula) calls.now replies.old replies.new (standing F.meaning S.meaning result) }
 {
     let mut case = Case::open(formula, shelf);
     // a reply is written by its place: of what an iterator lends to be written, a proof knows the length only

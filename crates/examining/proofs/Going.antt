@@ -2,14 +2,14 @@
 use Rattle.std.proofs.Common.{◌≡◌, ℕ, ◌+◌, ◌<◌, ◌≤◌, true, false, List, [], ◌∷◌, ◌++◌, length, get_or, take, drop, Ok, Err, Result, MatchResult, sym, refl, ap, ◌∙◌, subst, append_assoc, append-nil, arith, length-drop, take-append-drop, length-take, take_all}
 use Rattle.std.specs.List.{AllByRecursion}
 use Rattle.std.proofs.ByRecursion.{All-append, All-from_get_or}
+use Rattle.calculus.specs.Meaning.{Formed}
 use Rattle.calculus.specs.Truth.{truth}
 use Rattle.laws.specs.Lines.{Line}
 use Rattle.laws.specs.Runs.{Call, claims}
 use Rattle.case.specs.Claimed.{Claimed, After}
-use Rattle.case.specs.Promise.{Says, VerdictRight}
 use Rattle.case.specs.Standing.{Standing}
-use Rattle.case.specs.declared.verdict.Verdict.{Verdict}
 use Rattle.case.proofs.Claims.{claimed_goes_on}
+use Rattle.case.proofs.Verdicts.{refuted_false}
 use Rattle.dockets.specs.Encoding.{Entry, Writable, encoded_all}
 use Rattle.dockets.specs.Reading.{entry_at, length_at}
 use Rattle.dockets.proofs.Joining.{front_more, line_ends, line_long, some_bytes}
@@ -80,13 +80,9 @@ granted_on s (entry ∷ entries) t (line, p, u, c, claimed, rest) calls h =
     let (more, on) = granted_on u entries t rest (calls ++ (claims line ∷ [])) (claimed_goes_on s line (Ok p) u claimed calls h).0 in
     (claims line ∷ more, subst (λ cs. After cs t) (append_assoc calls (claims line ∷ []) more) on)
 
--- the verdict is right wherever calls lead
-abbrev Right : Standing → Verdict → Type 0
-Right t v = (calls : List Call) → After calls t → VerdictRight calls t v
-
-module _ (s : Standing) (docket : List ℕ) (at : ℕ) (t : Standing) (came : Came s docket at t) (v : Verdict) (says : Says t v) (right : Right t v) where
+module _ (s : Standing) (docket : List ℕ) (at : ℕ) (t : Standing) (came : Came s docket at t) (formed : Formed t.formula) where
   false_here : (calls : List Call) → After calls s → t.refuted ≡ true → truth t.formula ≡ false
-  false_here calls h e = let (more, on) = granted_on s came.entries t came.granted calls h in (right (calls ++ more) on).false_then (says.0 ∙ e)
+  false_here calls h = let (more, on) = granted_on s came.entries t came.granted calls h in refuted_false (calls ++ more) t formed on
 
   -- the docket is at its end
   pub right_whole : length docket ≤ at → ExaminedRight s docket (Ok tt) t

@@ -1,4 +1,5 @@
 // A docket examined on a case.
+ghost use Rattle.case.specs.Standing.{standing};
 ghost use Rattle.examining.specs.Examined.{ExaminedRight};
 
 use super::steps::step;
@@ -12,7 +13,7 @@ pub fn examine<F: Formula, S: Shelf>(
     case: &mut Case<F, S>,
     docket: &[u8],
 ) -> Result<(), ReportFault>
-    ensures { ExaminedRight case.old.standing docket.now result case.new.standing }
+    ensures { ExaminedRight (standing F.meaning S.meaning case.old) docket.now result (standing F.meaning S.meaning case.new) }
 {
     // an iterator over the lines would carry this same offset, and the case beside it
     let mut at = 0;

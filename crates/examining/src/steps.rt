@@ -1,4 +1,5 @@
 // One line of a docket, decoded and claimed.
+ghost use Rattle.case.specs.Standing.{standing};
 ghost use Rattle.examining.specs.Steps.{Stepped};
 
 use super::claiming::claim_at;
@@ -13,7 +14,7 @@ pub(crate) fn step<F: Formula, S: Shelf>(
     docket: &[u8],
     at: usize,
 ) -> Result<usize, DocketFault>
-    ensures { Stepped case.old.standing docket.now at result case.new.standing }
+    ensures { Stepped (standing F.meaning S.meaning case.old) docket.now at result (standing F.meaning S.meaning case.new) }
 {
     let (claim, next) = claim_at(docket, at)?;
     with_place(case.claim(claim), at)?;

@@ -1,6 +1,7 @@
 // A claim and a call as values, answered.
 ghost use Rattle.case.specs.Answers.{line_of, meant_call, meant_reply};
 ghost use Rattle.case.specs.Claimed.{ClaimRight, CallRight};
+ghost use Rattle.case.specs.Standing.{standing};
 
 use super::super::call::{Call, Reply};
 use super::super::claim::Claim;
@@ -12,7 +13,7 @@ use shelf::Shelf;
 impl<F: Formula, S: Shelf> Case<F, S> {
     // Claims a line; it answers the number of the line, or why it is refused.
     pub fn claim(&mut self, claim: Claim) -> Result<usize, Refusal>
-        ensures { ClaimRight self.old.standing (line_of claim) result self.new.standing }
+        ensures { ClaimRight (standing F.meaning S.meaning self.old) (line_of claim) result (standing F.meaning S.meaning self.new) }
     {
         match claim {
             Claim::Axiom(clause) => self.axiom(clause),
@@ -24,7 +25,7 @@ impl<F: Formula, S: Shelf> Case<F, S> {
 
     // Makes the call.
     pub fn answer(&mut self, call: Call) -> Reply
-        ensures { CallRight self.old.standing (meant_call call) (meant_reply result) self.new.standing }
+        ensures { CallRight (standing F.meaning S.meaning self.old) (meant_call call) (meant_reply result) (standing F.meaning S.meaning self.new) }
     {
         match call {
             Call::Claim(claim) => Reply::Claim(self.claim(claim)),

@@ -11,7 +11,7 @@ use shelf::Shelf;
 impl<F: Formula, S: Shelf> Case<F, S> {
     // That the case is not refuted.
     pub(crate) fn still_open(&self) -> Result<(), Refusal>
-        ensures { MatchResult result (λ _. self.now.standing.refuted ≡ false) (λ e. (self.now.standing.refuted ≡ true) × (e ≡ Closed)) }
+        ensures { MatchResult result (λ _. self.now.refuted ≡ false) (λ e. (self.now.refuted ≡ true) × (e ≡ Closed)) }
     {
         if self.refuted {
             return Err(Refusal::Closed);
@@ -21,7 +21,7 @@ impl<F: Formula, S: Shelf> Case<F, S> {
 
     // That the formula has the variable.
     pub(crate) fn variable(&self, v: usize) -> Result<(), Refusal>
-        ensures { MatchResult result (λ _. Variable self.now.standing.formula.n v) (λ e. (Variable self.now.standing.formula.n v → ⊥) × (e ≡ Absent)) }
+        ensures { MatchResult result (λ _. Variable (F.meaning self.now.formula).n v) (λ e. (Variable (F.meaning self.now.formula).n v → ⊥) × (e ≡ Absent)) }
     {
         if v == 0 || v > self.formula.variable_count() {
             return Err(Refusal::Absent);

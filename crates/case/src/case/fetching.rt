@@ -13,7 +13,7 @@ impl<F: Formula, S: Shelf> Case<F, S> {
         line: usize,
         place: &'c mut [u16; 512],
     ) -> Result<Clause<'c>, Refusal>
-        ensures { Fetched self.now.standing.shelf.kept line result }
+        ensures { Fetched (S.meaning self.now.shelf).kept line result }
     {
         let len = self.shelf.look(line, place)?;
         Ok(Clause::front(&place[..len]))

@@ -3,6 +3,7 @@ ghost use Rattle.std.specs.Prelude.{◌≡◌, false};
 ghost use Rattle.laws.specs.Claims.{is_empty};
 ghost use Rattle.sets.specs.Members.{members};
 ghost use Rattle.shelf.specs.Shelved.{Keeps};
+ghost use Rattle.case.specs.Standing.{standing};
 ghost use Rattle.case.specs.Steps.{KeepsLine};
 
 use super::super::refusal::Refusal;
@@ -14,8 +15,8 @@ use shelf::{Clause, Shelf, ShelfFault};
 impl<F: Formula, S: Shelf> Case<F, S> {
     // Keeps a clause as the next line; the empty clause refutes.
     pub(crate) fn keep(&mut self, clause: ClauseSet) -> Result<usize, Refusal>
-        requires { self.old.standing.refuted ≡ false }
-        ensures { KeepsLine self.old.standing (members clause.literals.words) result self.new.standing }
+        requires { self.old.refuted ≡ false }
+        ensures { KeepsLine (standing F.meaning S.meaning self.old) (members clause.literals.words) result (standing F.meaning S.meaning self.new) }
     {
         let line = shelve(&mut self.shelf, &clause)?;
         self.refuted = is_empty(&clause);

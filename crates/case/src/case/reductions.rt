@@ -1,6 +1,7 @@
 // Claims of reductions.
 ghost use Rattle.laws.specs.Lines.{reduction};
 ghost use Rattle.case.specs.Claimed.{ClaimRight};
+ghost use Rattle.case.specs.Standing.{standing};
 ghost use Rattle.case.specs.Steps.{Yields};
 
 use super::super::refusal::Refusal;
@@ -13,7 +14,7 @@ use shelf::Shelf;
 impl<F: Formula, S: Shelf> Case<F, S> {
     // Claims a line without its literal over a universal variable.
     pub fn reduction(&mut self, line: usize, variable: usize) -> Result<usize, Refusal>
-        ensures { ClaimRight self.old.standing (reduction line variable) result self.new.standing }
+        ensures { ClaimRight (standing F.meaning S.meaning self.old) (reduction line variable) result (standing F.meaning S.meaning self.new) }
     {
         let clause = self.reduction_clause(line, variable)?;
         self.keep(clause)
@@ -21,7 +22,7 @@ impl<F: Formula, S: Shelf> Case<F, S> {
 
     // The checks in their order, and the clause.
     fn reduction_clause(&self, line: usize, variable: usize) -> Result<ClauseSet, Refusal>
-        ensures { Yields self.now.standing (reduction line variable) result }
+        ensures { Yields (standing F.meaning S.meaning self.now) (reduction line variable) result }
     {
         self.still_open()?;
         let mut cells = [0u16; 512];

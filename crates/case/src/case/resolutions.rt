@@ -1,6 +1,7 @@
 // Claims of resolvents.
 ghost use Rattle.laws.specs.Lines.{resolution};
 ghost use Rattle.case.specs.Claimed.{ClaimRight};
+ghost use Rattle.case.specs.Standing.{standing};
 ghost use Rattle.case.specs.Steps.{Yields};
 
 use super::super::refusal::Refusal;
@@ -18,7 +19,7 @@ impl<F: Formula, S: Shelf> Case<F, S> {
         second: usize,
         variable: usize,
     ) -> Result<usize, Refusal>
-        ensures { ClaimRight self.old.standing (resolution first second variable) result self.new.standing }
+        ensures { ClaimRight (standing F.meaning S.meaning self.old) (resolution first second variable) result (standing F.meaning S.meaning self.new) }
     {
         let clause = self.resolution_clause(first, second, variable)?;
         self.keep(clause)
@@ -31,7 +32,7 @@ impl<F: Formula, S: Shelf> Case<F, S> {
         second: usize,
         variable: usize,
     ) -> Result<ClauseSet, Refusal>
-        ensures { Yields self.now.standing (resolution first second variable) result }
+        ensures { Yields (standing F.meaning S.meaning self.now) (resolution first second variable) result }
     {
         self.still_open()?;
         let mut first_cells = [0u16; 512];

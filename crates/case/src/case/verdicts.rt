@@ -1,12 +1,12 @@
 // The verdict.
 ghost use Rattle.std.specs.Prelude.{◌≡◌, List, true, ◌↔◌};
-ghost use Rattle.calculus.specs.Meaning.{Formed};
 ghost use Rattle.laws.specs.Claims.{closed};
 ghost use Rattle.laws.specs.Runs.{Call};
 ghost use Rattle.laws.specs.Store.{Closed};
 ghost use Rattle.case.specs.Answers.{is_refuted};
 ghost use Rattle.case.specs.Claimed.{After};
 ghost use Rattle.case.specs.Promise.{Says, VerdictRight};
+ghost use Rattle.case.specs.Standing.{standing};
 
 use super::super::verdict::Verdict;
 use super::Case;
@@ -16,18 +16,17 @@ use shelf::Shelf;
 impl<F: Formula, S: Shelf> Case<F, S> {
     // Whether the formula is refuted, and how many claims were granted since the opening.
     pub fn verdict(&self) -> Verdict
-        ensures says { Says self.now.standing result }
-        ensures closed { (is_refuted result ≡ true) ↔ Closed self.now.standing.shelf.kept }
-        ensures right { (calls : List Call) → After calls self.now.standing → VerdictRight calls self.now.standing result }
+        ensures says { Says (standing F.meaning S.meaning self.now) result }
+        ensures closed { (is_refuted result ≡ true) ↔ Closed (standing F.meaning S.meaning self.now).shelf.kept }
+        ensures right { (calls : List Call) → After calls (standing F.meaning S.meaning self.now) → VerdictRight calls (standing F.meaning S.meaning self.now) result }
     {
         self.tally()
     }
 
-    // The verdict by the flag and the lines kept; and what is true of every case.
+    // The verdict by the flag and the lines kept; and that the flag is true exactly where the empty clause is kept.
     fn tally(&self) -> Verdict
-        ensures says { Says self.now.standing result }
-        ensures closed { self.now.standing.refuted ≡ closed self.now.standing.shelf.kept }
-        ensures formed { Formed self.now.standing.formula }
+        ensures says { Says (standing F.meaning S.meaning self.now) result }
+        ensures closed { (standing F.meaning S.meaning self.now).refuted ≡ closed (standing F.meaning S.meaning self.now).shelf.kept }
     {
         let granted = self.shelf.count();
         if self.refuted {

@@ -1,4 +1,5 @@
 use Rattle.std.proofs.Common.{ap, ◌∙◌}
+use Rattle.case.specs.Standing.{standing}
 use Rattle.case.proofs.Makings.{made_none, made_more, made_right}
 use Rattle.case.proofs.Steps.{led_none}
 use Rattle.case.proofs.running.run.Goals as goal
@@ -7,7 +8,7 @@ pub loop-i-init : goal.loop-i-init
 loop-i-init g c =
     let e = c.into_iter-i-iterator.ensures.into_iter_gives in
     let f = ap (λ it. it.iter) e ∙ c.take-i-items.ensures.source in
-    made_none _ _ _ _ _ _ _ _ (led_none c.open-case.result.standing c.open-case.ensures.reached) (ap (λ it. it.count) f ∙ c.enumerate.ensures.count)
+    made_none _ _ _ _ _ _ _ _ (led_none (standing g.F.Formula.meaning g.S.Shelf.meaning c.open-case.result) c.open-case.ensures.reached) (ap (λ it. it.count) f ∙ c.enumerate.ensures.count)
     (ap (λ it. it.iter.rest.now) f ∙ ap (λ it. it.rest.now) c.enumerate.ensures.source ∙ c.iter.ensures.rest) (ap (λ it. it.n) e ∙ c.take-i-items.ensures.count)
 
 pub loop-i-preserved : goal.loop-i-preserved

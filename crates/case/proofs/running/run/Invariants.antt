@@ -1,7 +1,9 @@
+use Rattle.case.specs.Standing.{standing}
 use Rattle.case.proofs.Makings.{Made}
 use Rattle.case.proofs.running.run.Given as goal
 
 abbrev pub invariant-loop-i : goal.invariant-loop-i
 invariant-loop-i g l =
     let it = l.i-iterator in
-    Made l.initial.case.standing.shelf.store l.initial.case.standing.formula l.calls it.iter.count it.iter.iter.rest.now it.n l.initial.replies l.replies l.case.standing
+    Made (g.S.Shelf.meaning l.initial.case.shelf).store (g.F.Formula.meaning l.initial.case.formula) l.calls it.iter.count it.iter.iter.rest.now it.n l.initial.replies l.replies
+    (standing g.F.Formula.meaning g.S.Shelf.meaning l.case)

@@ -4,11 +4,11 @@ use Rattle.examining.proofs.Going.{came_more, goes_forward, right_whole, right_f
 use Rattle.examining.proofs.examination.examine.Goals as goal
 
 pub returns-then-at-docket : goal.returns-then-at-docket
-returns-then-at-docket g c = right_whole _ _ _ _ c.loop-at.invariant _ c.verdict.ensures.says c.verdict.ensures.right c.if-at-docket.true
+returns-then-at-docket g c = right_whole _ _ _ _ c.loop-at.invariant (g.F.Formula.formed c.loop-at.case.formula) c.if-at-docket.true
 
 pub returns-in_err-at : goal.returns-in_err-at
 returns-in_err-at g c =
-    right_fault _ _ _ _ c.loop-at.invariant _ c.verdict.ensures.says c.verdict.ensures.right _ _ _
+    right_fault _ _ _ _ c.loop-at.invariant (g.F.Formula.formed c.loop-at.case.formula) _ _ _
     (err_from_is_err_and c.from_residual.result c.from_residual.ensures.1) c.if-at-docket.false
     (stepped_fault _ _ _ _ _ _ _ _ c.step.ensures c.with_place.ensures c.in_err-at.was (c.granted-kept.ensures ∙ c.verdict.ensures.says.1))
 
