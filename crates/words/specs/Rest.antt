@@ -2,6 +2,7 @@
 use Rattle.std.specs.Prelude.{◌≡◌, ℕ, ◌<◌, ◌≤◌, Bool, true, false, not, List, [], ◌∷◌, map, length, drop, IfSome, Option}
 use Rattle.std.specs.Iterator.{YieldsFirst}
 use Rattle.words.specs.declared.token.Lexeme.{Lexeme}
+use Rattle.words.specs.declared.reader.Words.{Words}
 use Rattle.words.specs.Words.{blank, words_from, lexeme}
 
 -- the bytes of a run of blanks, and those of a word
@@ -19,11 +20,14 @@ pub record First (at : ℕ) (text : List ℕ) (l : Lexeme) (end : ℕ) : Type 0 
   pub place : l.place < length text
   pub within : end ≤ length text
 
--- a text that is read word by word: the whole text, and the words that are left
-pub record Unread : Type 0 where
-  pub text : List ℕ
-  pub left : List Lexeme
+-- the words from the offset on that reading has come to
+abbrev pub rest : Words → List Lexeme
+rest w = lexemes_from w.at w.text.now
+
+-- the whole text
+abbrev pub text_of : Words → List ℕ
+text_of w = w.text.now
 
 -- reading gives the first word that is left, which begins in the text, and leaves the others; of no word it leaves none
-abbrev pub Gives : Unread → Option Lexeme → Unread → Type 0
-Gives u given v = YieldsFirst (λ w. w.left) u given v × IfSome given (λ l. l.place < length u.text) × (v.text ≡ u.text)
+abbrev pub Gives : Words → Option Lexeme → Words → Type 0
+Gives w given v = YieldsFirst rest w given v × IfSome given (λ l. l.place < length (text_of w)) × (text_of v ≡ text_of w)

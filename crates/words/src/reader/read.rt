@@ -3,7 +3,7 @@ ghost use Rattle.std.specs.Prelude.{◌≡◌, ℕ, ◌≤◌, [], length, Match
 ghost use Rattle.std.specs.List.{prefix_len};
 ghost use Rattle.std.specs.Iterator.{item_count};
 ghost use Rattle.words.specs.Words.{blank, lexemes};
-ghost use Rattle.words.specs.Rest.{in_run, lexemes_from, First, Gives};
+ghost use Rattle.words.specs.Rest.{in_run, lexemes_from, First, rest, text_of, Gives};
 
 use super::super::comments::first_word;
 use super::super::token::{Lexeme, Token};
@@ -41,8 +41,8 @@ fn word_from(text: &[u8], at: usize) -> Option<(Lexeme, usize)>
 impl<'a> Words<'a> {
     // All the words of a text.
     pub fn new(text: &'a [u8]) -> Words<'a>
-        ensures words { result.left ≡ lexemes text.now }
-        ensures text { result.text ≡ text.now }
+        ensures words { rest result ≡ lexemes text.now }
+        ensures text { text_of result ≡ text.now }
     {
         Words {
             text,
@@ -56,7 +56,7 @@ impl<'a> Iterator for Words<'a> {
 
     ghost next_gives = { Gives };
 
-    ghost remaining = { item_count (λ w. w.left) };
+    ghost remaining = { item_count rest };
 
     // The next word; None where no word is left.
     fn next(&mut self) -> Option<Lexeme> {

@@ -1,4 +1,5 @@
 use Rattle.std.proofs.Common.{rules, tests, length, ◌≡◌, ℕ, true, List, Ok, Err, Result, MatchResult, is_ok, IsErrAnd, sym, refl, ap, ◌∙◌, subst, arith}
+use Rattle.words.specs.Rest.{rest}
 use Rattle.grammar.specs.declared.rule.TextFault.{TextFault}
 use Rattle.grammar.proofs.Outcomes.{meaning_of}
 use Rattle.reading.proofs.Starting.{fresh_stands}
@@ -25,15 +26,15 @@ faulted text ls es (Err g) f e h = subst (λ g. Faults (sizes ls es) text g.rule
 
 pub loop-word-init : goal.loop-word-init
 loop-word-init c =
-    starts c.args.text.now c.into_iter-word-iterator.result.left c.new-state.result c.args.literals.now c.args.ends.now
-    (ap (λ w. w.left) c.into_iter-word-iterator.ensures.into_iter_gives ∙ c.new-word-items.ensures.words)
+    starts c.args.text.now (rest c.into_iter-word-iterator.result) c.new-state.result c.args.literals.now c.args.ends.now
+    (ap rest c.into_iter-word-iterator.ensures.into_iter_gives ∙ c.new-word-items.ensures.words)
     (fresh_stands c.new-state.result c.args.literals.now c.args.ends.now c.new-state.ensures c.requires.no_codes c.requires.no_counts)
 
 pub loop-word-preserved : goal.loop-word-preserved
 loop-word-preserved c =
     let g = c.loop-word.invariant in
     let stepped = rw (was_ok c.step.result c.in_ok-map_err.ensures.variant) at (c.step.ensures g.draft g.lawful g.stands) in
-    goes_on c.args.text.now c.loop-word.word-iterator.left c.next.new.self.left c.loop-word.state c.step.new.self c.loop-word.literals
+    goes_on c.args.text.now (rest c.loop-word.word-iterator) (rest c.next.new.self) c.loop-word.state c.step.new.self c.loop-word.literals
     c.loop-word.ends c.step.new.cells c.step.new.ends c.in-Some.word g c.in-Some.ensures.steps.0 (omega arith) (omega arith) stepped.0
     stepped.1
 
@@ -48,7 +49,7 @@ returns-in_err-map_err-2 c =
     let e = was_err (λ e. fault ≡ record { rule = e; byte = length text }) fault c.finish.result c.in_err-map_err-2.ensures.cases (λ e h. search (rules, tests)) in
     let ended = some_fault _ e.0 (sym e.1 ∙ c.finish.ensures g.draft ls es g.stands) in
     faulted text ls es c.from_residual-in_err-map_err-2.result fault c.from_residual-in_err-map_err-2.ensures.1
-    (stops text c.loop-word.word-iterator.left s ls es g c.in-None.ensures.steps.0.0 e.0 ended fault e.2)
+    (stops text (rest c.loop-word.word-iterator) s ls es g c.in-None.ensures.steps.0.0 e.0 ended fault e.2)
 
 pub invariant_of-result : goal.invariant_of-result
 invariant_of-result c =
@@ -58,7 +59,7 @@ invariant_of-result c =
     let ls = c.loop-word.literals in
     let es = c.loop-word.ends in
     let f = no_fault _ tt (sym (was_ok c.finish.result c.in_ok-map_err-2.ensures.variant) ∙ c.finish.ensures g.draft ls es g.stands) in
-    let h = holds text s ls es g.draft g.lawful g.stands f (reads text c.loop-word.word-iterator.left s ls es g c.in-None.ensures.steps.0.0 f) in
+    let h = holds text s ls es g.draft g.lawful g.stands f (reads text (rest c.loop-word.word-iterator) s ls es g c.in-None.ensures.steps.0.0 f) in
     record { few = s.few; bound = ∣ h.prefix ∣₁ }
 
 pub returns : goal.returns
@@ -69,7 +70,7 @@ returns c =
     let ls = c.loop-word.literals in
     let es = c.loop-word.ends in
     let f = no_fault _ tt (sym (was_ok c.finish.result c.in_ok-map_err-2.ensures.variant) ∙ c.finish.ensures g.draft ls es g.stands) in
-    let r = reads text c.loop-word.word-iterator.left s ls es g c.in-None.ensures.steps.0.0 f in
+    let r = reads text (rest c.loop-word.word-iterator) s ls es g c.in-None.ensures.steps.0.0 f in
     let h = holds text s ls es g.draft g.lawful g.stands f r in
     record {
       formula = meaning_of g.draft;
