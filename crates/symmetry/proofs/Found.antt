@@ -1,8 +1,6 @@
 -- A set is looked up among the clauses by its ascending list.
-use Rattle.std.proofs.Common.{◌≡◌, ℕ, ◌<◌, Bool, true, false, ◌↔◌, List, [], length, Some, None, Option, sym, ap, ◌∙◌, subst, MatchOption}
-use mathlib.Core.Bool.{false≢true}
+use Rattle.std.proofs.Common.{◌≡◌, ℕ, ◌<◌, ◌↔◌, List, [], length, Some, None, Option, sym, ap, ◌∙◌, subst, MatchOption}
 use Rattle.std.specs.List.{AllByRecursion}
-use Rattle.std.proofs.lemmas.Bool.Decides.{Decides-like}
 use Rattle.calculus.specs.Sets.{Same}
 use Rattle.calculus.specs.Meaning.{Meaning, Formed, Code, clause_of}
 use Rattle.laws.specs.Cards.{Among}
@@ -39,9 +37,9 @@ module _ (m : Meaning) (words : List ℕ) where
       )
 
 -- the set of a list of codes is looked up for the list; where there is none, no clause has the codes
-pub looked_up :
+pub set_for :
     (m : Meaning) (formed : Formed m) (C : List ℕ) (set : Option LiteralSet) →
     MatchOption set (AllByRecursion (Code 512) C → ⊥) (λ s. AllByRecursion (Code 512) C × (members s.words ≡ sorted C)) →
-    (r : Bool) → MatchOption set (r ≡ false) (λ s. (r ≡ true) ↔ Among m (members s.words)) → (r ≡ true) ↔ Among m C
-looked_up m formed C None h r k = (λ e. absurd (false≢true (sym k ∙ e)), λ a. absurd (h (among_codes m formed C a)))
-looked_up m formed C (Some s) h r k = Decides-like r (among_sorted m (members s.words) C h.1).0 (among_sorted m (members s.words) C h.1).1 k
+    MatchOption set (Among m C → ⊥) (λ s. Among m (members s.words) ↔ Among m C)
+set_for m formed C None h = λ a. h (among_codes m formed C a)
+set_for m formed C (Some s) h = among_sorted m (members s.words) C h.1

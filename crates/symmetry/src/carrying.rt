@@ -25,9 +25,10 @@ fn is_carried<F: Formula>(f: &F, card: &Card, j: usize) -> bool
     has_clause(f, &image_set(f, card, j))
 }
 
-// The set of the images of the literals of clause j.
+// The set of the images of the literals of clause j, which is looked up for the image of the clause.
 fn image_set<F: Formula>(f: &F, card: &Card, j: usize) -> LiteralSet
-    ensures { members result.words ≡ sorted (map (act (meant card.now)) (clause_of (F.meaning f.now) j)) }
+    ensures literals { members result.words ≡ sorted (map (act (meant card.now)) (clause_of (F.meaning f.now) j)) }
+    ensures among { Among (F.meaning f.now) (members result.words) ↔ Among (F.meaning f.now) (map (act (meant card.now)) (clause_of (F.meaning f.now) j)) }
 {
     let mut set = LiteralSet::new();
     for i in 0..f.clause_len(j) {

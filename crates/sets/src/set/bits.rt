@@ -3,6 +3,7 @@ ghost use Rattle.std.specs.Prelude.{◌≡◌, ◌-◌, ◌/◌, ◌%◌, ◌<�
 ghost use Rattle.calculus.specs.Meaning.{Code};
 ghost use Rattle.laws.specs.Claims.{insert};
 ghost use Rattle.sets.specs.Members.{has_bit, members};
+ghost use Rattle.sets.specs.Steps.{with_bit};
 
 use super::LiteralSet;
 
@@ -52,6 +53,13 @@ impl LiteralSet {
     // Puts a literal into the set.
     pub(super) fn add(&mut self, literal: Literal)
         ensures { members self.new.words ≡ insert literal.code (members self.old.words) }
+    {
+        self.set_bit(literal);
+    }
+
+    // Sets the bit of a literal.
+    fn set_bit(&mut self, literal: Literal)
+        ensures { self.new.words ≡ with_bit self.old.words literal.code }
     {
         self.words[literal.word()] |= 1u64 << literal.bit();
     }
