@@ -35,6 +35,7 @@ pub struct Negated;
 impl Change for Negated {
     ghost change = { negated };
 
+    #[tactic(auto, using(crate::proofs::Negating::negated_short))]
     fn write<F: Formula>(f: &F, out: &mut [u8]) -> Result<usize, WriteFault> {
         write_image(f, out)
     }

@@ -1,11 +1,13 @@
-// What the programs share: a file that may be missing, memory for every text that is read, and the program that writes a text changed.
+// What the programs share: a file that may be missing, memory for every text that is read, and the program that prints what a call writes.
 // It allocates, as programs may; no library stands on it.
 #![tactic(auto)]
+
+ghost use Rattle.tidying.specs.Tidied.{Room};
 
 use std::fs::Files;
 use std::io::{Print, Write};
 use std::{fs, io};
-use tidying::{Change, write_changed};
+use tidying::WriteFault;
 
 // the longest text that is read
 pub const LONGEST: usize = 65536;
@@ -26,8 +28,14 @@ pub fn bytes_of<R: Files + AllocGlobal>(rt: &R, path: &str) -> io::Result<Vec<u8
     }
 }
 
-// Prints the formula of formula.qdimacs, changed, or the line that reports the first fault of the text.
-pub fn print_changed<C: Change, R: Files + AllocGlobal + Print>(rt: &R) -> io::Result<()> {
+// Prints what a call writes of the text of formula.qdimacs, which it reads into the cells it is lent. The call finds room for every text.
+pub fn print_written<R, F>(rt: &R, write: F) -> io::Result<()>
+where
+    R: Files + AllocGlobal + Print,
+    F: FnOnce(&[u8], &mut [u16], &mut [u16], &mut [u8]) -> Result<usize, WriteFault>,
+    requires callable { F.IsAlwaysCallable write }
+    requires room { (text literals ends out r literals' ends' out' : _) → F.post write text literals ends out r literals' ends' out' → Room out.now r }
+{
     let text = bytes_of(rt, "formula.qdimacs")?;
     if text.len() > LONGEST {
         return println!(rt; "file too long");
@@ -35,6 +43,6 @@ pub fn print_changed<C: Change, R: Files + AllocGlobal + Print>(rt: &R) -> io::R
     let mut literals = vec![in rt.alloc(); 0u16; LITERALS]?;
     let mut ends = vec![in rt.alloc(); 0u16; CLAUSES]?;
     let mut out = vec![in rt.alloc(); 0u8; WRITTEN]?;
-    let len = write_changed::<C>(&text, &mut literals, &mut ends, &mut out).unwrap();
+    let len = write(&text, &mut literals, &mut ends, &mut out).unwrap();
     io::writer(rt).write_all(&out[..len])
 }

@@ -8,6 +8,7 @@ ghost use Rattle.reports.specs.Lines.{report_line};
 ghost use Rattle.reports.specs.Short.{Room, ReportIsShort};
 
 mod numbers;
+mod putting;
 mod report;
 
 pub use report::Report;

@@ -3,6 +3,7 @@ ghost use Rattle.reports.specs.Lines.{report_line};
 ghost use Rattle.reports.specs.Short.{InRange};
 
 use crate::numbers::{fault_byte, fault_lines, fault_number, fault_word};
+use crate::putting::{put_open, put_refused, put_refuted};
 use faults::ReportFault;
 use writer::Writable;
 use writer::pen::Pen;
@@ -24,29 +25,13 @@ impl Writable for Report {
 
     fn put(&self, pen: &mut Pen<'_>) {
         match *self {
-            Report::Refuted { line, lines } => {
-                pen.put_all(b"refuted line ");
-                pen.put_number(line);
-                pen.put_all(b" lines ");
-                pen.put_number(lines);
-            }
-            Report::Open(lines) => {
-                pen.put_all(b"open lines ");
-                pen.put_number(lines);
-            }
+            Report::Refuted { line, lines } => put_refuted(pen, line, lines),
+            Report::Open(lines) => put_open(pen, lines),
             Report::Refused(fault) => {
                 let (number, byte) = (fault_number(fault), fault_byte(fault));
-                pen.put_all(b"refused ");
-                pen.put_number(number);
-                pen.put_all(b" layer ");
-                pen.put_all(fault_word(fault));
-                pen.put_all(b" byte ");
-                pen.put_number(byte);
-                pen.put_all(b" line ");
-                pen.put_number(fault_lines(fault));
+                put_refused(pen, number, fault_word(fault), byte, fault_lines(fault));
             }
-            Report::TooLong => pen.put_all(b"file too long"),
+            Report::TooLong => pen.put_all(b"file too long\n"),
         }
-        pen.put(b'\n');
     }
 }

@@ -8,7 +8,7 @@ mod change;
 
 pub use change::{Change, write_changed};
 use formula::Formula;
-use writer::WriteFault;
+pub use writer::WriteFault;
 
 // Writes the formula of a text, or the line that reports the text's first fault; answers how long that is. A buffer of 90,127 bytes
 // is long enough for every text.
@@ -30,6 +30,7 @@ pub struct Unchanged;
 impl Change for Unchanged {
     ghost change = { λ m. m };
 
+    #[tactic(auto, using(writer::proofs::Lengths::written_short))]
     fn write<F: Formula>(f: &F, out: &mut [u8]) -> Result<usize, WriteFault> {
         writer::write(f, out)
     }
