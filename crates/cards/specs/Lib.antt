@@ -4,3 +4,4 @@ pub mod Maps
 pub mod Pairs
 pub mod Judged
 pub mod Outcomes
+pub mod Printed

@@ -1,4 +1,7 @@
 // Why pairs make no card.
+ghost use Rattle.std.specs.Prelude.{Some};
+ghost use Rattle.cards.specs.Printed.{fault_text};
+
 use std::error::Error;
 use std::fmt;
 
@@ -12,6 +15,8 @@ pub enum CardFault {
 }
 
 impl fmt::Display for CardFault {
+    ghost output = { λ fault. Some (fault_text fault) };
+
     fn fmt<W: fmt::Write>(&self, f: &mut fmt::Formatter<W>) -> fmt::Result {
         match self {
             CardFault::Many => write!(f, "more than 512 pairs"),

@@ -1,6 +1,7 @@
 // The fault of a docket: that of a line's bytes, or that of its claim.
-ghost use Rattle.std.specs.Prelude.{◌≡◌};
+ghost use Rattle.std.specs.Prelude.{◌≡◌, Some};
 ghost use Rattle.faults.specs.declared.docket_fault.DocketFault.TheVariants.{Line, Claim};
+ghost use Rattle.faults.specs.Printed.{docket_text};
 
 use super::placed::Placed;
 use case::Refusal;
@@ -16,6 +17,8 @@ pub enum DocketFault {
 }
 
 impl fmt::Display for DocketFault {
+    ghost output = { λ fault. Some (docket_text fault) };
+
     fn fmt<W: fmt::Write>(&self, f: &mut fmt::Formatter<W>) -> fmt::Result {
         match self {
             DocketFault::Line(line) => write!(f, "{line}"),

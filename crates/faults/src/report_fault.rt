@@ -1,6 +1,7 @@
 // The fault that is reported: that of the text, or that of the docket with the lines kept by then.
-ghost use Rattle.std.specs.Prelude.{◌≡◌};
+ghost use Rattle.std.specs.Prelude.{◌≡◌, Some};
 ghost use Rattle.faults.specs.declared.report_fault.ReportFault.TheVariants.{Text, Docket};
+ghost use Rattle.faults.specs.Printed.{report_text};
 
 use super::docket_fault::DocketFault;
 use super::placed::Placed;
@@ -16,6 +17,8 @@ pub enum ReportFault {
 }
 
 impl fmt::Display for ReportFault {
+    ghost output = { λ fault. Some (report_text fault) };
+
     fn fmt<W: fmt::Write>(&self, f: &mut fmt::Formatter<W>) -> fmt::Result {
         match self {
             ReportFault::Text(text) => write!(f, "{text}"),

@@ -25,6 +25,10 @@ pub struct Inadmissible<F> {
 }
 
 impl<F> fmt::Display for Inadmissible<F> {
+    ghost use Rattle.std.specs.Prelude.{Some, codes};
+
+    ghost output = { λ _. Some (codes "inadmissible card") };
+
     fn fmt<W: fmt::Write>(&self, f: &mut fmt::Formatter<W>) -> fmt::Result {
         write!(f, "inadmissible card")
     }

@@ -28,7 +28,7 @@ pub fn bytes_of<R: Files + AllocGlobal>(rt: &R, path: &str) -> io::Result<Vec<u8
     }
 }
 
-// Prints what a call writes of the text of formula.qdimacs, which it reads into the cells it is lent. The call finds room for every text.
+// Prints what a call writes of the text of formula.qdimacs, or that the file is too long. The call has room for every text.
 pub fn print_written<R, F>(rt: &R, write: F) -> io::Result<()>
 where
     R: Files + AllocGlobal + Print,

@@ -44,6 +44,10 @@ impl TryFrom<LiteralSet> for ClauseSet {
 }
 
 impl fmt::Display for Tautology {
+    ghost use Rattle.std.specs.Prelude.{Some, codes};
+
+    ghost output = { λ _. Some (codes "tautology") };
+
     fn fmt<W: fmt::Write>(&self, f: &mut fmt::Formatter<W>) -> fmt::Result {
         write!(f, "tautology")
     }

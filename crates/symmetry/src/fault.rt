@@ -1,4 +1,7 @@
 // Why a card is no symmetry of a formula.
+ghost use Rattle.std.specs.Prelude.{Some};
+ghost use Rattle.symmetry.specs.Printed.{symmetry_word};
+
 use std::error::Error;
 use std::fmt;
 
@@ -10,6 +13,8 @@ pub enum SymmetryFault {
 }
 
 impl fmt::Display for SymmetryFault {
+    ghost output = { λ fault. Some (symmetry_word fault) };
+
     fn fmt<W: fmt::Write>(&self, f: &mut fmt::Formatter<W>) -> fmt::Result {
         match self {
             SymmetryFault::Level => write!(f, "level"),

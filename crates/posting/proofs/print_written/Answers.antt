@@ -1,4 +1,4 @@
-use Rattle.std.proofs.Common.{◌≤◌, length, arith, sym, length-take-le}
+use Rattle.std.proofs.Common.{sym, arith, length-take-le}
 use Rattle.posting.proofs.print_written.Goals as goal
 
 pub unwrap-len-requires : goal.unwrap-len-requires
@@ -6,7 +6,5 @@ unwrap-len-requires g c = (c.requires.room _ _ _ _ _ _ _ _ c.write.ensures).0 (o
 
 pub slice_bounds-write_all-end : goal.slice_bounds-write_all-end
 slice_bounds-write_all-end g c =
-    let room = c.requires.room _ _ _ _ _ _ _ _ c.write.ensures in
-    let within = rw c.unwrap-len.ensures at room.1 in
-    let h : c.unwrap-len.result ≤ length c.deref-2.result.now = omega (arith, within, c.deref-2.ensures.len, c.deref_mut-3.ensures.len) in
-    sym (length-take-le c.unwrap-len.result c.deref-2.result.now h)
+    let within = rw c.unwrap-len.ensures at (c.requires.room _ _ _ _ _ _ _ _ c.write.ensures).1 in
+    sym (length-take-le _ c.deref-2.result.now (omega (arith, within, c.deref-2.ensures.len, c.deref_mut-3.ensures.len)))
