@@ -1,5 +1,5 @@
 -- A variable in a block: which rule it breaks, and the state that stands for the block with it.
-use Rattle.std.proofs.Common.{◌≡◌, ℕ, suc, ap, ◌<◌, ◌≤◌, Bool, false, ◌⊎◌, List, ◌∷◌, map, length, get_or, set, Some, None, Option, sym, refl, ◌∙◌, ⊎_elim, arith}
+use Rattle.std.proofs.Common.{◌≡◌, ℕ, suc, ap, ◌<◌, ◌≤◌, Bool, false, ◌⊎◌, List, ◌∷◌, map, length, get_or, set, Some, None, sym, refl, ◌∙◌, ⊎_elim, arith}
 use Rattle.std.proofs.lemmas.List.{get_or-set_same, get_or-set_other, length-map, map-set}
 use Rattle.std.proofs.lemmas.Bool.{cases_eq, eq-eqb, ne_eqb}
 use Rattle.std.proofs.lemmas.Bool.Decides.{nat_tests}
@@ -11,7 +11,6 @@ use Rattle.grammar.specs.Fault.{fault}
 use Rattle.reading.specs.declared.state.Stage.TheVariants.{Block as InBlock}
 use Rattle.reading.specs.declared.state.State.{State}
 use Rattle.reading.specs.declared.binding.Binding.{Binding}
-use Rattle.reading.specs.Bindings.{level_at, quantifier_at}
 use Rattle.reading.specs.Stands.{Stands, stage_of, n_of, blocks_of}
 use Rattle.reading.proofs.Stages.{in_block}
 
@@ -44,7 +43,7 @@ updated xs v x f g within here there same w =
     ⊎_elim (λ e. rw e (get_or-set_same xs v x 0 within ∙ sym here)) (λ n. get_or-set_other xs v w x 0 n ∙ same w ∙ sym (there w n)) (cases_eq w v)
 
 -- the same of the levels or the quantifiers that bindings give
-read_updated : (read : Option Binding → ℕ) (bs : List (Option Binding)) (v : ℕ) (b : Option Binding) (f g : ℕ → ℕ) → v < length bs → g v ≡ read b →
+read_updated : (read : Binding → ℕ) (bs : List Binding) (v : ℕ) (b : Binding) (f g : ℕ → ℕ) → v < length bs → g v ≡ read b →
     ((w : ℕ) → (w ≡ v → ⊥) → g w ≡ f w) → ((w : ℕ) → get_or (map read bs) w 0 ≡ f w) → (w : ℕ) → get_or (map read (set bs v b)) w 0 ≡ g w
 read_updated read bs v b f g within here there same w =
     rw (map-set read bs v b) (updated (map read bs) v (read b) f g (simp length-map within) here there same w)
@@ -60,11 +59,11 @@ module _ (s s' : State) (ls es : List ℕ) (t : Next) (v : ℕ) (natural : sort 
         m = o.m ∙ st.m;
         levels =
             rw o.bindings
-            (read_updated level_at s.bindings v s.latest (level_in (b ∷ bs)) (level_in (grown ∷ bs)) fits (rw (eq-eqb v v refl) (sym st.blocks))
+            (read_updated (λ b. b.level) s.bindings v s.latest (level_in (b ∷ bs)) (level_in (grown ∷ bs)) fits (rw (eq-eqb v v refl) (sym st.blocks))
             (λ w n. rw (ne_eqb w v n) refl) st.levels);
         quantifiers =
             rw o.bindings
-            (read_updated quantifier_at s.bindings v s.latest (quantifier_in (b ∷ bs)) (quantifier_in (grown ∷ bs)) fits (rw (eq-eqb v v refl) (sym st.latest))
+            (read_updated (λ b. b.quantifier) s.bindings v s.latest (quantifier_in (b ∷ bs)) (quantifier_in (grown ∷ bs)) fits (rw (eq-eqb v v refl) (sym st.latest))
             (λ w n. rw (ne_eqb w v n) refl) st.quantifiers);
         blocks = rw o.latest_is st.blocks;
         latest = rw o.latest_is st.latest;

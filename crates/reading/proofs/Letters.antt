@@ -1,11 +1,6 @@
 -- A letter behind the blocks that have ended: which rule it breaks, and the state that stands for the block it opens.
-use Rattle.std.proofs.Common.{refl, ◌≡◌, ℕ, ◌+◌, ◌<◌, ◌≤◌, true, List, [], ◌∷◌, length, Some, None, ◌∙◌, arith}
+use Rattle.std.proofs.Common.{◌≡◌, ℕ, ◌+◌, ◌<◌, ◌≤◌, true, List, [], ◌∷◌, length, Some, None, ◌∙◌, arith}
 use Rattle.std.proofs.lemmas.Bool.Decides.{nat_tests}
-use denote.Enum.Bare.{sameb}
-use Rattle.formula.specs.contracts.quantifier.Quantifier.{the_type}
-use Rattle.formula.specs.declared.quantifier.Quantifier.{Quantifier}
-use Rattle.formula.specs.declared.quantifier.Quantifier.TheVariants.{Exists, Forall}
-use Rattle.formula.specs.Quantifiers.{quantifier_number}
 use Rattle.grammar.specs.declared.rule.Rule.TheVariants.{Spelling, Binding}
 use Rattle.grammar.specs.Draft.{Block, Draft, matrix, binding}
 use Rattle.grammar.specs.Lawful.{Sizes, Lawful, latest}
@@ -13,7 +8,6 @@ use Rattle.grammar.specs.Next.{Next, sort, size, after}
 use Rattle.grammar.specs.Fault.{fault}
 use Rattle.reading.specs.declared.state.Stage.TheVariants.{Block as InBlock, Matrix}
 use Rattle.reading.specs.declared.state.State.{State}
-use Rattle.reading.specs.Bindings.{level_at, quantifier_at}
 use Rattle.reading.specs.Stands.{Stands, stage_of, blocks_of, clauses_of, open_of}
 use Rattle.reading.proofs.Counts.{few_blocks}
 use Rattle.reading.proofs.Stages.{in_matrix}
@@ -35,25 +29,14 @@ module _ (S : Sizes) (d : Draft) (t : Next) (letter : sort t ≡ 3) (at : Matrix
   pub few : Lawful S d → length (blocks_of d) ≤ 512
   few = in_matrix (λ d. Lawful S d → length (blocks_of d) ≤ 512) (λ n m bs Cs C h. omega (arith, few_blocks n bs h.1, h.0.1)) d at
 
--- a quantifier's number is not that of none, and tells it from the other
-pub kind : (q : Quantifier) → 1 ≤ quantifier_number (Some q)
-kind Exists = omega arith
-kind Forall = omega arith
-
-pub other_kind : (p q : Quantifier) → quantifier_number (Some p) ≡ quantifier_number (Some q) → sameb the_type p q ≡ true
-other_kind Exists Exists e = refl
-other_kind Exists Forall e = absurd (omega arith)
-other_kind Forall Exists e = absurd (omega arith)
-other_kind Forall Forall e = refl
-
 -- nothing but the blocks changes
 pub record Opened (s s' : State) (q : ℕ) : Type 0 where
   pub stage : s'.stage ≡ InBlock true
   pub n : s'.n ≡ s.n
   pub m : s'.m ≡ s.m
   pub bindings : s'.bindings ≡ s.bindings
-  pub level : level_at s'.latest ≡ level_at s.latest + 1
-  pub quantifier : quantifier_at s'.latest ≡ q
+  pub level : s'.latest.level ≡ s.latest.level + 1
+  pub quantifier : s'.latest.quantifier ≡ q
   pub clauses : s'.clauses ≡ s.clauses
   pub literals : s'.literals ≡ s.literals
   pub open_count : s'.tail ≡ s.tail

@@ -1,20 +1,13 @@
 -- The levels and the quantifiers that bindings give.
-use Rattle.std.specs.Prelude.{ℕ, List, map, Some, None, Option}
-use Rattle.formula.specs.Quantifiers.{quantifier_number}
+use Rattle.std.specs.Prelude.{ℕ, List, map}
 use Rattle.reading.specs.declared.binding.Binding.{Binding}
 
--- the level, and the quantifier by its number; 0 where there is no binding
-abbrev pub level_at : Option Binding → ℕ
-level_at None = 0
-level_at (Some b) = b.level
+abbrev pub levels_of : List Binding → List ℕ
+levels_of bs = map (λ b. b.level) bs
 
-abbrev pub quantifier_at : Option Binding → ℕ
-quantifier_at None = 0
-quantifier_at (Some b) = quantifier_number (Some b.quantifier)
+abbrev pub quantifiers_of : List Binding → List ℕ
+quantifiers_of bs = map (λ b. b.quantifier) bs
 
--- the same of each variable
-abbrev pub levels_of : List (Option Binding) → List ℕ
-levels_of bs = map level_at bs
-
-abbrev pub quantifiers_of : List (Option Binding) → List ℕ
-quantifiers_of bs = map quantifier_at bs
+-- the binding of a variable that no block binds
+abbrev pub no_binding : Binding
+no_binding = record { level = 0; quantifier = 0 }

@@ -8,7 +8,7 @@ use Rattle.grammar.specs.Fault.{fault, unbegun, unbound}
 use Rattle.reading.specs.declared.state.Stage.{Stage}
 use Rattle.reading.specs.declared.state.Stage.TheVariants.{Start, Problem, Format, Sized, Block as InBlock, Matrix}
 use Rattle.reading.specs.declared.state.State.{State}
-use Rattle.reading.specs.Bindings.{level_at, quantifier_at, levels_of, quantifiers_of}
+use Rattle.reading.specs.Bindings.{levels_of, quantifiers_of, no_binding}
 use Rattle.reading.specs.Laid.{padded, all_codes, running}
 
 -- the parts of a draft; at the stage of a block, whether it has no variable yet
@@ -72,8 +72,8 @@ pub record Stands (d : Draft) (s : State) (literals ends : List ℕ) : Type 0 wh
   pub m : s.m ≡ m_of d
   pub levels : (v : ℕ) → slice_index (levels_of s.bindings) v ≡ level_in (blocks_of d) v
   pub quantifiers : (v : ℕ) → slice_index (quantifiers_of s.bindings) v ≡ quantifier_in (blocks_of d) v
-  pub blocks : level_at s.latest ≡ length (blocks_of d)
-  pub latest : quantifier_at s.latest ≡ latest (blocks_of d)
+  pub blocks : s.latest.level ≡ length (blocks_of d)
+  pub latest : s.latest.quantifier ≡ latest (blocks_of d)
   pub clauses : s.clauses ≡ length (clauses_of d)
   pub count : s.literals ≡ literal_count (clauses_of d) (open_of d)
   pub open_count : s.tail ≡ length (open_of d)
@@ -85,8 +85,8 @@ pub record Fresh (s : State) : Type 0 where
   pub stage : s.stage ≡ Start
   pub n : s.n ≡ 0
   pub m : s.m ≡ 0
-  pub unbound : s.bindings ≡ replicate 513 None
-  pub latest : s.latest ≡ None
+  pub unbound : s.bindings ≡ replicate 513 no_binding
+  pub latest : s.latest ≡ no_binding
   pub clauses : s.clauses ≡ 0
   pub count : s.literals ≡ 0
   pub open_count : s.tail ≡ 0

@@ -1,12 +1,23 @@
-// What a block gives its variables.
-ghost use Rattle.std.specs.Prelude.{◌≤◌};
+// What a block gives its variables, in numbers; both are 0 where a variable is unbound.
+ghost use Rattle.std.specs.Prelude.{◌≡◌, Some};
+ghost use Rattle.formula.specs.Quantifiers.{quantifier_number};
 
 use formula::Quantifier;
 
-#[derive(Clone, Copy, Debug, PartialEq, Eq)]
+#[derive(Clone, Copy, Debug, Default, PartialEq, Eq)]
 pub struct Binding {
     // 1 for the outermost block
     pub level: u16,
-    pub quantifier: Quantifier,
-    ghost counted: { 1 ≤ level },
+    // 1 existential, 2 universal
+    pub quantifier: u16,
+}
+
+// The number of a block's quantifier.
+pub(crate) fn number(q: Quantifier) -> u16
+    ensures { result ≡ quantifier_number (Some q) }
+{
+    match q {
+        Quantifier::Exists => 1,
+        Quantifier::Forall => 2,
+    }
 }

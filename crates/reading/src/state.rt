@@ -21,10 +21,10 @@ pub struct State {
     // the header's two numbers
     pub n: usize,
     pub m: usize,
-    // the binding of each variable; None where it is unbound
-    pub bindings: [Option<Binding>; 513],
-    // that of the variables of the latest block; None where no block has begun
-    pub latest: Option<Binding>,
+    // the binding of each variable
+    pub bindings: [Binding; 513],
+    // that of the variables of the latest block: its level tells how many blocks have begun
+    pub latest: Binding,
     // how many clauses have ended, how many literals stand in all, and how many behind the ended clauses
     pub clauses: usize,
     pub literals: usize,

@@ -9,7 +9,7 @@ ghost use Rattle.reading.specs.Bindings.{levels_of};
 ghost use Rattle.reading.specs.Stands.{Fresh, Stands, Stepped, Steps, StepsIn, sizes, gap, early, full, ended};
 ghost use Rattle.reading.specs.declared.state.Stage.TheVariants.{Start, Problem, Format, Sized, Block, Matrix};
 
-use super::binding::Binding;
+use super::binding::{Binding, number};
 use super::state::{Stage, State};
 use formula::Quantifier;
 use grammar::Rule;
@@ -24,8 +24,8 @@ impl State {
             stage: Stage::Start,
             n: 0,
             m: 0,
-            bindings: [None; 513],
-            latest: None,
+            bindings: [Binding::default(); 513],
+            latest: Binding::default(),
             clauses: 0,
             literals: 0,
             tail: 0,
@@ -98,7 +98,7 @@ impl State {
         requires { (vacant : Bool) × (self.old.stage ≡ Block vacant) }
         ensures { (t : Next) → sort t ≡ 4 → size t ≡ v → (v ≢ 0) → Steps self.old t result self.new }
     {
-        if v > self.n || self.bindings[v].is_some() {
+        if v > self.n || self.bindings[v].level != 0 {
             return Err(Rule::Binding);
         }
         self.bindings[v] = self.latest;
@@ -114,16 +114,14 @@ impl State {
         if self.clauses > 0 || self.tail > 0 {
             return Err(Rule::Spelling);
         }
-        let latest = self.latest;
-        let level = match latest {
-            Some(b) if b.quantifier == q => return Err(Rule::Binding),
-            Some(b) => b.level.saturating_add(1), // there are at most 512 blocks
-            None => 1,
+        let quantifier = number(q);
+        if quantifier == self.latest.quantifier {
+            return Err(Rule::Binding);
+        }
+        self.latest = Binding {
+            level: self.latest.level.saturating_add(1), // there are at most 512 blocks
+            quantifier,
         };
-        self.latest = Some(Binding {
-            level,
-            quantifier: q,
-        });
         self.stage = Stage::Block { vacant: true };
         Ok(())
     }
@@ -132,7 +130,7 @@ impl State {
     fn has_gap(&self) -> bool
         ensures { result ≡ gap (levels_of self.now.bindings) self.now.n }
     {
-        self.bindings[1..=self.n].contains(&None)
+        self.bindings[1..=self.n].iter().any(|b| b.level == 0)
     }
 
     // No word of a clause has come, and some variable is unbound.

@@ -1,3 +1,4 @@
 mod Spans
 mod Cutting
+mod Folding
 mod Reading

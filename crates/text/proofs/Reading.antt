@@ -19,7 +19,7 @@ use Rattle.grammar.proofs.Outcomes.{meaning_of, read_whole}
 use Rattle.grammar.proofs.Steps.{rules_kept, step}
 use Rattle.reading.specs.declared.state.State.{State}
 use Rattle.reading.specs.declared.binding.Binding.{Binding}
-use Rattle.reading.specs.Bindings.{level_at, quantifier_at, levels_of, quantifiers_of}
+use Rattle.reading.specs.Bindings.{levels_of, quantifiers_of}
 use Rattle.reading.specs.Laid.{padded, all_codes, running}
 use Rattle.reading.specs.Stands.{Stands, in_order, ended, sizes}
 use Rattle.reading.proofs.Laying.{length_in_order}
@@ -96,11 +96,11 @@ module _ (text : List ℕ) (s : State) (ls es : List ℕ) where
       Reads (sizes ls es) text (formula_of n bs Cs) → Held (formula_of n bs Cs) s ls es
   holds_matrix n m bs Cs all lawful st reads =
       let formed = reads_formed (sizes ls es) text (formula_of n bs Cs) reads in
-      let long : (read : Option Binding → ℕ) → n + 1 ≤ length (map read s.bindings) = λ read. simp length-map (omega (arith, lawful.0.1, s.bounded)) in
+      let long : (read : Binding → ℕ) → n + 1 ≤ length (map read s.bindings) = λ read. simp length-map (omega (arith, lawful.0.1, s.bounded)) in
       let levels : take (s.n + 1) (levels_of s.bindings) ≡ map (level_in bs) (range_with_len 0 (n + 1)) =
-      ap (λ k. take (k + 1) (levels_of s.bindings)) st.n ∙ front_is (levels_of s.bindings) (level_in bs) n (long level_at) st.levels in
+      ap (λ k. take (k + 1) (levels_of s.bindings)) st.n ∙ front_is (levels_of s.bindings) (level_in bs) n (long (λ b. b.level)) st.levels in
       let quantifiers : take (s.n + 1) (quantifiers_of s.bindings) ≡ map (quantifier_in bs) (range_with_len 0 (n + 1)) =
-      ap (λ k. take (k + 1) (quantifiers_of s.bindings)) st.n ∙ front_is (quantifiers_of s.bindings) (quantifier_in bs) n (long quantifier_at) st.quantifiers in
+      ap (λ k. take (k + 1) (quantifiers_of s.bindings)) st.n ∙ front_is (quantifiers_of s.bindings) (quantifier_in bs) n (long (λ b. b.quantifier)) st.quantifiers in
       let codes = st.codes_laid ∙ ap (padded (length ls)) (append-nil (all_codes (in_order Cs))) in
       let clauses : clauses_in s.n s.m ls es ≡ in_order Cs =
       ap (λ k. clauses_in k s.m ls es) st.n ∙

@@ -1,6 +1,5 @@
 -- Where the clauses lie in cells that fit.
-use Rattle.std.proofs.Common.{◌≡◌, ℕ, zero, suc, ◌<◌, ◌≤◌, true, ◌&&◌, leb, List, [], ◌∷◌, length, get_or, take, refl, ap, ◌∙◌, arith}
-use Rattle.std.specs.List.{list_all, zip}
+use Rattle.std.proofs.Common.{◌≡◌, ℕ, zero, suc, ◌<◌, ◌≤◌, true, leb, List, [], ◌∷◌, length, get_or, take, refl, ap, ◌∙◌, arith}
 use Rattle.std.proofs.lemmas.List.{get_or-take, length-take-le}
 use Rattle.std.proofs.lemmas.Bool.{and_parts, leb-true}
 use Rattle.text.specs.Cells.{cut, cuts, lies, fits}
@@ -39,8 +38,3 @@ module _ (literals ends : List ℕ) (count : ℕ) (held : count ≤ length ends)
       let e : get_or (take count ends) j 0 ≡ get_or ends j 0 = get_or-take count ends j 0 h in
       let b = rw (s, e) at (lies_within n literals _ _ (fits_at n literals 0 (take count ends) fit j k)) in
       (b.0, b.1, rw (← s, ← e) (cuts_at literals 0 (take count ends) j k))
-
--- each end beside the end before it, the first beside the given place: all of them fit where each does
-pub each_fits : (n : ℕ) (literals : List ℕ) (from : ℕ) (ends : List ℕ) → list_all (λ p. lies n literals p.0 p.1) (zip (from ∷ ends) ends) ≡ fits n literals from ends
-each_fits n literals from [] = refl
-each_fits n literals from (end ∷ ends) = ap (λ rest. lies n literals from end && rest) (each_fits n literals end ends)

@@ -10,7 +10,7 @@ mod answering;
 #[derive(Clone, Copy, Debug, PartialEq, Eq)]
 pub(crate) struct Prefix {
     pub(crate) n: usize,
-    pub(crate) bindings: [Option<Binding>; 513],
+    pub(crate) bindings: [Binding; 513],
     ghost few: { n ≤ 512 },
     ghost bound: { ∥ Bound n (take (n + 1) (levels_of bindings)) (take (n + 1) (quantifiers_of bindings)) ∥₁ },
 }

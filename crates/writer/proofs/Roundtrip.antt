@@ -1,5 +1,5 @@
 -- What is written of a formula reads back as that formula.
-use Rattle.std.proofs.Common.{◌≡◌, ℕ, zero, suc, ◌+◌, ◌<◌, eqb, Bool, true, false, cond, List, [], ◌∷◌, ◌++◌, map, reverse, length, Ok, Err, sym, refl, ap, ◌∙◌, append_assoc, arith}
+use Rattle.std.proofs.Common.{◌≡◌, ℕ, zero, suc, ◌+◌, ◌<◌, eqb, Bool, true, false, cond, List, [], ◌∷◌, ◌++◌, map, reverse, length, Ok, Err, Result, sym, refl, ap, ◌∙◌, append_assoc, arith}
 use mathlib.Core.List.{reverse-cons}
 use Rattle.std.specs.List.{range_with_len, flat_map}
 use Rattle.std.proofs.lemmas.List.FromFn.{fill_by_all}
@@ -13,6 +13,7 @@ use Rattle.grammar.specs.Lawful.{Sizes, AllBound, Clauses}
 use Rattle.grammar.specs.Outcome.{Reads}
 use Rattle.words.specs.declared.token.Token.{Token}
 use Rattle.words.specs.declared.token.Token.TheVariants.{Number}
+use Rattle.writer.specs.declared.fault.WriteFault.{WriteFault}
 use Rattle.writer.specs.declared.fault.WriteFault.TheVariants.{Cramped}
 use Rattle.writer.specs.Back.{FitsLimits, HasCells, ReadsBack, WrittenReadsBack}
 use Rattle.writer.specs.Into.{fits, laid, answer, filled}
@@ -121,5 +122,5 @@ either_way : (m : Meaning) → Formed m → (out : List ℕ) (b : Bool) →
 either_way m h out true = rw take-append_seam (written_reads_back m h)
 either_way m h out false = tt
 
-pub reads_back : (m : Meaning) → Formed m → (out : List ℕ) → ReadsBack (answer (written m) out) (filled (written m) out) m
-reads_back m h out = either_way m h out (fits (written m) out)
+pub reads_back : (m : Meaning) → Formed m → (r : Result ℕ WriteFault) (out left : List ℕ) → r ≡ answer (written m) out → left ≡ filled (written m) out → ReadsBack r left m
+reads_back m h r out left e f = rw (e, f) (either_way m h out (fits (written m) out))

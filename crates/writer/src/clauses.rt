@@ -38,6 +38,6 @@ pub(crate) fn put_clauses<F: Formula>(pen: &mut Pen<'_>, f: &F)
 {
     for j in 0..f.clause_count() {
         put_literals(pen, f, j);
-        pen.put_all(b"0\n");
+        pen.put_end();
     }
 }

@@ -13,7 +13,7 @@ use formula::{Formula, Quantifier};
 fn depth<F: Formula>(f: &F) -> usize
     ensures { result ≡ greatest (F.meaning f.now).levels }
 {
-    (0..=f.variable_count())
+    (0..f.variable_count() + 1)
         .map(|v| usize::from(f.level(v)))
         .max()
         .unwrap_or(0)
@@ -23,7 +23,7 @@ fn depth<F: Formula>(f: &F) -> usize
 fn first_variable<F: Formula>(f: &F, k: usize) -> Option<usize>
     ensures { result ≡ slice_get (at_level (F.meaning f.now) k) 0 }
 {
-    (1..=f.variable_count()).find(|v| usize::from(f.level(*v)) == k)
+    (1..f.variable_count() + 1).find(|v| usize::from(f.level(*v)) == k)
 }
 
 // The letter e or a of level k.
@@ -40,7 +40,9 @@ fn letter<F: Formula>(f: &F, k: usize) -> u8
 fn put_variables<F: Formula>(pen: &mut Pen<'_>, f: &F, k: usize)
     ensures { Put (flat_map variable_text (at_level (F.meaning f.now) k)) pen.old pen.new }
 {
-    for v in 1..=f.variable_count() {
+    // none of them stands before the first
+    let first = first_variable(f, k).unwrap_or(1);
+    for v in first..f.variable_count() + 1 {
         if usize::from(f.level(v)) == k {
             pen.put_space();
             pen.put_number(v);
@@ -54,7 +56,8 @@ fn put_block<F: Formula>(pen: &mut Pen<'_>, f: &F, k: usize)
 {
     pen.put(letter(f, k));
     put_variables(pen, f, k);
-    pen.put_all(b" 0\n");
+    pen.put_space();
+    pen.put_end();
 }
 
 // Puts a line for each level, from the outermost on.

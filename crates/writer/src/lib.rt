@@ -24,6 +24,7 @@ use tidy::Tidy;
 pub use writable::{Writable, count, write_into};
 
 // Writes the text of a formula into a buffer; answers how long it is. A buffer that is too short stays as it was.
+#[tactic(auto, using(crate::proofs::Roundtrip::reads_back))]
 pub fn write<F: Formula>(f: &F, out: &mut [u8]) -> Result<usize, WriteFault>
     ensures answers { result ≡ answer (written (F.meaning f.now)) out.old }
     ensures holds { out.new ≡ filled (written (F.meaning f.now)) out.old }

@@ -1,5 +1,5 @@
 // A pen puts bytes into a lent buffer one after the other; its place goes on past the buffer's end, to tell how long a text is.
-ghost use Rattle.std.specs.Prelude.{◌≡◌, [], ◌∷◌, decimal};
+ghost use Rattle.std.specs.Prelude.{◌≡◌, [], ◌∷◌, codes, decimal};
 ghost use Rattle.writer.specs.Pen.{Put};
 
 #[derive(Drop)]
@@ -68,5 +68,12 @@ impl<'a> Pen<'a> {
         ensures { Put (32 ∷ []) self.old self.new }
     {
         self.put(b' ');
+    }
+
+    // Ends the line of a level or a clause: 0 and a line feed.
+    pub(crate) fn put_end(&mut self)
+        ensures { Put (codes "0\n") self.old self.new }
+    {
+        self.put_all(b"0\n");
     }
 }

@@ -1,34 +1,28 @@
 // What is asked of a prefix.
 ghost use Rattle.std.specs.Prelude.{◌≡◌, slice_index};
 ghost use Rattle.formula.specs.Quantifiers.{quantifier_number};
-ghost use Rattle.reading.specs.Bindings.{level_at, quantifier_at};
 ghost use Rattle.text.specs.Cells.{levels_in, quantifiers_in, code, codes};
 
 use super::Prefix;
 use formula::Quantifier;
-use reading::Binding;
 
 impl Prefix {
     // The level of variable v; 0 where v is no variable.
     pub(crate) fn level(&self, v: usize) -> u16
         ensures { result ≡ slice_index (levels_in self.now) v }
     {
-        self.binding(v).map_or(0, |b| b.level)
+        self.bindings[..=self.n].get(v).map_or(0, |b| b.level)
     }
 
     // The quantifier of variable v; None where v is no variable.
     pub(crate) fn quantifier(&self, v: usize) -> Option<Quantifier>
         ensures { quantifier_number result ≡ slice_index (quantifiers_in self.now) v }
     {
-        self.binding(v).map(|b| b.quantifier)
-    }
-
-    // How variable v is bound; None where v is no variable.
-    fn binding(&self, v: usize) -> Option<Binding>
-        ensures level { level_at result ≡ slice_index (levels_in self.now) v }
-        ensures quantifier { quantifier_at result ≡ slice_index (quantifiers_in self.now) v }
-    {
-        self.bindings[..=self.n].get(v).copied().flatten()
+        match self.bindings[..=self.n].get(v).map_or(0, |b| b.quantifier) {
+            1 => Some(Quantifier::Exists),
+            2 => Some(Quantifier::Forall),
+            _ => None,
+        }
     }
 
     // Whether each of the codes is one of a literal over the variables.

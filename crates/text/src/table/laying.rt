@@ -6,7 +6,6 @@ ghost use Rattle.text.specs.Tables.{formula_in};
 use super::super::outline::Outline;
 use super::super::prefix::Prefix;
 use super::Table;
-use std::iter;
 
 impl<'a> Table<'a> {
     // The formula of an outline whose clauses lie in these cells.
@@ -42,20 +41,17 @@ fn fitting(outline: &Outline, literals: &[u16], ends: &[u16]) -> usize
 fn all_lie(prefix: &Prefix, literals: &[u16], ends: &[u16]) -> bool
     ensures { result ≡ fits prefix.now.n literals.now 0 ends.now }
 {
-    iter::once(0).chain(ends.iter().copied()).zip(ends).all(|(from, end)| clause_lies(
-        prefix,
-        literals,
-        usize::from(from),
-        usize::from(*end),
-    ))
+    ends.iter()
+        .try_fold(0, |from, end| {
+            let end = usize::from(*end);
+            clause_lies(prefix, literals, from, end).then_some(end)
+        })
+        .is_some()
 }
 
 // Whether a clause over the variables lies from one end to the next.
 fn clause_lies(prefix: &Prefix, literals: &[u16], from: usize, end: usize) -> bool
     ensures { result ≡ lies prefix.now.n literals.now from end }
 {
-    match literals.get(from..end) {
-        Some(clause) => clause.len() <= 1024 && prefix.spans(clause),
-        None => false,
-    }
+    from <= end && end <= literals.len() && end - from <= 1024 && prefix.spans(&literals[from..end])
 }

@@ -1,8 +1,11 @@
-use Rattle.std.proofs.Common.{◌∙◌, arith}
-use Rattle.reading.proofs.Gaps.{is_none_level, any_gap}
+use Rattle.std.proofs.Common.{rules, ◌∙◌, arith}
+use Rattle.std.proofs.lemmas.Iterator.{YieldsList-from_slice}
+use Rattle.std.proofs.lemmas.Iterator.Search.{any_from_yields_List}
+use Rattle.reading.proofs.Gaps.{unleveled, any_gap}
 use Rattle.reading.proofs.state.State.has_gap.Goals as goal
 
 pub returns : goal.returns
 returns c =
-    c.contains.ensures.value ∙
-    any_gap _ (is_none_level _) c.args.self.now.bindings _ c.args.self.now.n (omega arith) (omega arith)
+    let s = c.args.self.now in
+    any_from_yields_List unleveled _ _ c.any.result c.any.ensures.ran (YieldsList-from_slice _ c.iter.ensures.rest) (λ b r q k. search rules)
+    ∙ any_gap s.bindings _ s.n (omega arith) (omega arith)
