@@ -13,6 +13,10 @@ front_whole C F f p =
     let long : length (take (length C) C) ≤ length F = f.longest (length C) (subst Proper (sym all) p) in
     sym f.front ∙ take_all (length F) C (omega (arith, ap length all))
 
+-- so that is as long
+pub front_length : (C F : List ℕ) → LongestFront C F → Proper C → length F ≡ length C
+front_length C F f p = ap length (front_whole C F f p)
+
 no_longer : (C F G : List ℕ) → LongestFront C F → LongestFront C G → length G ≤ length F
 no_longer C F G f g = omega (arith, f.longest (length G) (subst Proper (sym g.front) g.proper), ap length g.front)
 

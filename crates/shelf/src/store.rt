@@ -14,6 +14,7 @@ impl Store {
     ghost use Rattle.shelf.specs.Stores.{store_of, Bears};
 
     // Whether there is space for so many clauses of so many literals each.
+    #[tactic(auto, using(crate::proofs::Quotients::quotient_is, crate::proofs::Quotients::one_is_lighter))]
     pub fn has_space(self, clauses: usize, literals: usize) -> bool
         ensures { (result ≡ true) ↔ Space (store_of self) clauses literals }
     {

@@ -10,6 +10,7 @@ use shelf::Clause;
 
 impl<'a> CellShelf<'a> {
     // Whether there is room for a clause.
+    #[tactic(auto, using(shelf::proofs::Rooms::room_is, crate::proofs::Rooms::weighs))]
     pub(super) fn has_room(&self, codes: &[u16]) -> bool
         ensures { (result ≡ true) ↔ Room (meant self.now).store (meant self.now).kept codes.now }
     {
@@ -35,6 +36,7 @@ impl<'a> CellShelf<'a> {
 }
 
 // Writes a line at a place: its length, then its codes.
+#[tactic(auto, using(crate::proofs::Writing::written_lies))]
 fn write_line(cells: &mut [u16], at: usize, codes: &[u16])
     requires short { length codes.now ≤ 512 }
     requires free { at + (1 + length codes.now) ≤ length cells.old }

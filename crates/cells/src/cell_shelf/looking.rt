@@ -17,6 +17,7 @@ impl<'a> CellShelf<'a> {
     }
 
     // Where a line begins, from the index; none where it is not kept.
+    #[tactic(auto, using(crate::proofs::Places::index_length, crate::proofs::Places::index_lies))]
     fn start(&self, line: usize) -> Option<usize>
         ensures { MatchOption result (length (meant self.now).kept ≤ line) (λ at. (line < length (meant self.now).kept) × Lies self.now.cells.now at (line_of (meant self.now).kept line)) }
     {

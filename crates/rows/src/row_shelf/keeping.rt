@@ -2,7 +2,6 @@
 ghost use Rattle.rows.specs.Held.{shelf_in, shelf_sound};
 
 use super::RowShelf;
-use super::writing::set_of;
 use shelf::{Clause, Shelf, ShelfFault};
 
 impl<'a> Shelf for RowShelf<'a> {
@@ -18,7 +17,7 @@ impl<'a> Shelf for RowShelf<'a> {
         if !self.has_room(clause.codes()) {
             return Err(ShelfFault::Full);
         }
-        Ok(self.push(set_of(clause)))
+        Ok(self.push(clause))
     }
 
     fn look(&self, line: usize, place: &mut [u16; 512]) -> Result<usize, ShelfFault> {

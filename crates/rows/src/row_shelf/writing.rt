@@ -1,12 +1,13 @@
 // One row more.
 ghost use Rattle.std.specs.Prelude.{◌≡◌, true, ◌↔◌, [], ◌∷◌, ◌++◌, length};
+ghost use Rattle.calculus.specs.Literals.{Tautological};
 ghost use Rattle.laws.specs.Store.{Room};
 ghost use Rattle.shelf.specs.Shelved.{holding};
 ghost use Rattle.sets.specs.Members.{members};
 ghost use Rattle.rows.specs.Held.{shelf_in};
 
 use super::RowShelf;
-use sets::{ClauseSet, LiteralSet};
+use sets::LiteralSet;
 use shelf::Clause;
 
 impl<'a> RowShelf<'a> {
@@ -20,24 +21,25 @@ impl<'a> RowShelf<'a> {
 
     // Keeps a clause that there is room for in the next row, and answers its line.
     #[tactic(auto, using(crate::proofs::Lines::counted, crate::proofs::Lines::weighs, crate::proofs::Lines::length_written, crate::proofs::Lines::row_more, crate::proofs::Lines::proper_more))]
-    pub(super) fn push(&mut self, clause: ClauseSet) -> usize
-        requires { Room (shelf_in self.old).store (shelf_in self.old).kept (members clause.literals.words) }
+    pub(super) fn push(&mut self, clause: Clause<'_>) -> usize
+        requires { Room (shelf_in self.old).store (shelf_in self.old).kept clause.codes.now }
         ensures line { result ≡ length (shelf_in self.old).kept }
-        ensures kept { shelf_in self.new ≡ holding (shelf_in self.old) ((shelf_in self.old).kept ++ (members clause.literals.words ∷ [])) }
+        ensures kept { shelf_in self.new ≡ holding (shelf_in self.old) ((shelf_in self.old).kept ++ (clause.entry.codes.now ∷ [])) }
     {
         let line = self.count;
+        let row = set_of(clause).words();
         // By words, since the contract of `as_chunks_mut` does not say what the slice ends as.
         let at = 16 * line;
-        self.words[at..at + 16].copy_from_slice(&clause.literals().words());
+        self.words[at..at + 16].copy_from_slice(&row);
         self.count = line + 1;
         line
     }
 }
 
-// The set of a clause's literals.
-pub(super) fn set_of(clause: Clause<'_>) -> ClauseSet
-    ensures { members result.literals.words ≡ clause.entry.codes.now }
+// The set of a clause's literals, of which none comes with its negation.
+fn set_of(clause: Clause<'_>) -> LiteralSet
+    ensures codes { members result.words ≡ clause.entry.codes.now }
+    ensures proper { Tautological (members result.words) → ⊥ }
 {
-    let literals = LiteralSet::of(clause.codes()).unwrap();
-    ClauseSet::try_from(literals).unwrap()
+    LiteralSet::of(clause.codes()).unwrap()
 }

@@ -27,6 +27,7 @@ impl<'a> TryFrom<&'a [u16]> for Clause<'a> {
 
     ghost try_from_gives = { λ codes r. MatchResult r (λ c. Proper codes.now × (c.codes.now ≡ codes.now)) (λ _. Proper codes.now → ⊥) };
 
+    #[tactic(auto, using(crate::proofs::Fronts::front_length))]
     fn try_from(codes: &'a [u16]) -> Result<Clause<'a>, NoClause> {
         let clause = Clause::front(codes);
         if clause.codes.len() == codes.len() {
