@@ -22,6 +22,8 @@ pub fn decode(docket: &[u8], at: usize) -> Result<Line, LineFault>
 }
 
 // Takes the fields of a line, but of a card only its place.
+// Inlined, so that a cursor is not laid out in memory for the call.
+#[inline(always)]
 pub(crate) fn head(cursor: &mut Cursor) -> Result<Line, LineFault>
     ensures same { cursor.new.docket.now ≡ cursor.old.docket.now }
     ensures taken { MatchResult result (λ line. HeadTaken cursor.old.docket.now cursor.old.at line cursor.new.at) (λ e. FailsAt e (head_checks cursor.old.docket.now cursor.old.at)) }

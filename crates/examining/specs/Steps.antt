@@ -6,19 +6,24 @@ use Rattle.case.specs.Claimed.{Claimed}
 use Rattle.case.specs.Standing.{Standing}
 use Rattle.case.specs.declared.claim.Claim.{Claim}
 use Rattle.dockets.specs.Encoding.{encoded}
-use Rattle.dockets.specs.Reading.{line_checks, Hold, FailsAt, entry_at}
+use Rattle.dockets.specs.Lines.{entry_for}
+use Rattle.dockets.specs.Reading.{card_checks, line_checks, Hold, FailsAt, entry_at}
 use Rattle.dockets.specs.declared.fault.LineFault.{LineFault}
+use Rattle.dockets.specs.declared.line.Line.{Line as DocketLine}
+use Rattle.dockets.specs.declared.line.Line.TheVariants.{Symmetry}
 use Rattle.faults.specs.declared.docket_fault.DocketFault.{DocketFault}
 use Rattle.faults.specs.declared.report_fault.ReportFault.{ReportFault}
 use Rattle.faults.specs.declared.report_fault.ReportFault.TheVariants.{Text, Docket}
 use Rattle.examining.specs.Entries.{Claims}
 use Rattle.examining.specs.Examined.{NextFault}
 
--- the bytes at an offset are a line, this is its claim, and the next line stands behind it; or they have this fault
-abbrev pub ClaimRead : List ℕ → ℕ → Result (Claim × ℕ) LineFault → Type 0
-ClaimRead docket at r =
-    MatchResult r (λ (claim, next). Hold (line_checks docket at) × Claims (entry_at docket at) (line_of claim) × (next ≡ at + length (encoded (entry_at docket at))))
-    (λ fault. FailsAt fault (line_checks docket at))
+-- the line has a card, with this fault
+abbrev pub CardFails : List ℕ → DocketLine → LineFault → Type 0
+CardFails docket line fault = (p : ℕ) × (place : ℕ) × (line ≡ Symmetry p place) × FailsAt fault (card_checks docket place)
+
+-- this is the claim of a line of a docket; or its card has this fault
+abbrev pub ClaimOf : List ℕ → DocketLine → Result Claim LineFault → Type 0
+ClaimOf docket line r = MatchResult r (λ claim. Claims (entry_for docket line) (line_of claim)) (λ fault. CardFails docket line fault)
 
 -- the line at an offset is read and granted, which leads from s to t, and the next offset is behind it
 abbrev pub LineGranted : Standing → List ℕ → ℕ → ℕ → Standing → Type 0

@@ -1,25 +1,21 @@
 // Claims read off a docket.
-ghost use Rattle.examining.specs.Steps.{ClaimRead};
+ghost use Rattle.examining.specs.Steps.{ClaimOf};
 
 use case::Claim;
-use dockets::{Line, LineFault, card_at, decode};
+use dockets::{Line, LineFault, card_at};
 
-// The claim at an offset of a docket, and the offset behind its line. The line is decoded whole, the card with it.
-pub(crate) fn claim_at(docket: &[u8], at: usize) -> Result<(Claim, usize), LineFault>
-    ensures { ClaimRead docket.now at result }
+// The claim of a line of a docket; the card of a symmetry line is read with it.
+pub(crate) fn claim_of(docket: &[u8], line: Line) -> Result<Claim, LineFault>
+    ensures { ClaimOf docket.now line result }
 {
-    let line = decode(docket, at)?;
-    let next = at + line.byte_count(docket);
     match line {
-        Line::Axiom(j) => Ok((Claim::Axiom(usize::from(j)), next)),
-        Line::Resolution(p, q, v) => {
-            let claim = Claim::Resolution(usize::from(p), usize::from(q), usize::from(v));
-            Ok((claim, next))
-        }
-        Line::Reduction(p, v) => Ok((Claim::Reduction(usize::from(p), usize::from(v)), next)),
-        Line::Symmetry(p, place) => {
-            let card = card_at(docket, place)?;
-            Ok((Claim::Symmetry(usize::from(p), card), next))
-        }
+        Line::Axiom(j) => Ok(Claim::Axiom(usize::from(j))),
+        Line::Resolution(p, q, v) => Ok(Claim::Resolution(
+            usize::from(p),
+            usize::from(q),
+            usize::from(v),
+        )),
+        Line::Reduction(p, v) => Ok(Claim::Reduction(usize::from(p), usize::from(v))),
+        Line::Symmetry(p, place) => Ok(Claim::Symmetry(usize::from(p), card_at(docket, place)?)),
     }
 }

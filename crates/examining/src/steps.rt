@@ -2,8 +2,9 @@
 ghost use Rattle.case.specs.Standing.{standing};
 ghost use Rattle.examining.specs.Steps.{Stepped};
 
-use super::claiming::claim_at;
+use super::claiming::claim_of;
 use case::Case;
+use dockets::decode;
 use faults::{DocketFault, with_place};
 use formula::Formula;
 use shelf::Shelf;
@@ -16,7 +17,8 @@ pub(crate) fn step<F: Formula, S: Shelf>(
 ) -> Result<usize, DocketFault>
     ensures { Stepped (standing F.meaning S.meaning case.old) docket.now at result (standing F.meaning S.meaning case.new) }
 {
-    let (claim, next) = claim_at(docket, at)?;
+    let line = decode(docket, at)?;
+    let claim = claim_of(docket, line)?;
     with_place(case.claim(claim), at)?;
-    Ok(next)
+    Ok(at + line.byte_count(docket))
 }

@@ -12,6 +12,8 @@ use shelf::Shelf;
 
 impl<F: Formula, S: Shelf> Case<F, S> {
     // Claims a line; it answers the number of the line, or why it is refused.
+    // Inlined, since a claim has room for a card, which a call would copy.
+    #[inline(always)]
     pub fn claim(&mut self, claim: Claim) -> Result<usize, Refusal>
         ensures { ClaimRight (standing F.meaning S.meaning self.old) (line_of claim) result (standing F.meaning S.meaning self.new) }
     {
