@@ -1,4 +1,5 @@
-// What a block gives its variables, in numbers; both are 0 where a variable is unbound.
+// What a block gives its variables, in numbers; both are 0 where a variable is unbound. They are no `Option` of a level and a `Quantifier`:
+// a state stands for drafts with any quantifier, and levels are asked for most often.
 ghost use Rattle.std.specs.Prelude.{◌≡◌, Some};
 ghost use Rattle.formula.specs.Quantifiers.{quantifier_number};
 

@@ -3,6 +3,7 @@ ghost use Rattle.std.specs.Prelude.{◌≤◌, length};
 
 mod read;
 
+// It has no model: one that shows the words that are left would not tell that they are those of the text.
 #[derive(Drop)]
 pub struct Words<'a> {
     text: &'a [u8],
