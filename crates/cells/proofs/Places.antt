@@ -1,5 +1,5 @@
 -- Where a line lies: at its start are its length and then its codes.
-use Rattle.std.proofs.Common.{◌≡◌, ℕ, suc, subst, ◌+◌, ◌<◌, ◌≤◌, List, [], ◌∷◌, ◌++◌, length, get_or, take, drop, sym, refl, ap, ◌∙◌, append_assoc, arith, length-drop, length-take, take-append-drop, drop-cons, drop-drop}
+use Rattle.std.proofs.Common.{◌≡◌, ℕ, suc, Bor, Option, None, Some, MatchOption, option_copied, subst, ◌+◌, ◌<◌, ◌≤◌, List, [], ◌∷◌, ◌++◌, length, get_or, take, drop, sym, refl, ap, ◌∙◌, append_assoc, arith, length-drop, length-take, take-append-drop, drop-cons, drop-drop}
 use Rattle.std.proofs.lemmas.List.{take_at, drop_at, get_or-take, get_or-drop, drop-take}
 use Rattle.cells.specs.Layout.{flat, parse, start, Lies}
 use Rattle.cells.specs.declared.cell_shelf.CellShelf.{CellShelf}
@@ -27,7 +27,7 @@ module _ (s : CellShelf) (p : ℕ) (there : p < s.count) where
   past = drop s.used s.cells.now
 
   -- a line that is kept lies where the index says
-  kept_lies : Lies s.cells.now (get_or s.starts p 0) C
+  pub kept_lies : Lies s.cells.now (get_or s.starts p 0) C
   kept_lies =
       let whole : s.cells.now ≡ flat lines ++ past = sym (take-append-drop s.used s.cells.now) ∙ ap (λ z. z ++ past) (sym s.laid) in
       ap (λ k. take (1 + length C) (drop k s.cells.now)) (s.indexed p there)
@@ -58,3 +58,12 @@ index_length s = omega (arith, length-take s.count s.starts, s.long, s.few, s.co
 pub index_lies : (s : CellShelf) (p at : ℕ) → p < s.count → at ≡ get_or (take s.count s.starts) p 0 → Lies s.cells.now at (get_or (parse s.count s.cells.now) p [])
 index_lies s p at there e =
     subst (λ k. Lies s.cells.now k (get_or (parse s.count s.cells.now) p [])) (sym (e ∙ get_or-take s.count s.starts p 0 there)) (kept_lies s p there)
+
+-- so what is read there is where the line lies; nothing is read where none is kept
+pub start_found :
+    (s : CellShelf) (p : ℕ) (o : Option (Bor ℕ)) →
+    MatchOption o (length (take s.count s.starts) ≤ p) (λ x. (p < length (take s.count s.starts)) × ((d : ℕ) → x.now ≡ get_or (take s.count s.starts) p d)) →
+    MatchOption (option_copied o) (length (parse s.count s.cells.now) ≤ p)
+    (λ at. (p < length (parse s.count s.cells.now)) × Lies s.cells.now at (get_or (parse s.count s.cells.now) p []))
+start_found s p None none = omega (arith, none, index_length s)
+start_found s p (Some x) (lt, read) = (omega (arith, lt, index_length s), index_lies s p x.now (omega (arith, lt, length-take s.count s.starts)) (read 0))

@@ -5,7 +5,7 @@ use Rattle.std.proofs.ByRecursion.{All-from_get_or}
 use Rattle.laws.specs.Cards.{Card}
 use Rattle.laws.specs.Lines.{symmetry}
 use Rattle.cards.specs.Pairs.{Makes}
-use Rattle.dockets.specs.Encoding.{encoded}
+use Rattle.dockets.specs.Encoding.{Entry, encoded}
 use Rattle.dockets.specs.Lines.{entry_for}
 use Rattle.dockets.specs.Reading.{Hold, line_checks, entry_at, pairs_at}
 use Rattle.dockets.specs.declared.line.Line.{Line}
@@ -14,9 +14,10 @@ use Rattle.dockets.proofs.Joining.{line_ends, line_long}
 use Rattle.examining.specs.Entries.{Claims}
 
 pub claims_symmetry :
-    (docket : List ℕ) (line : Line) (p place q : ℕ) (card : Card) → line ≡ Symmetry p place → q ≡ p → Makes (pairs_at docket place) card →
-    Claims (entry_for docket line) (symmetry q card)
-claims_symmetry docket line p place q card is same made = subst (λ x. Claims (entry_for docket x) (symmetry q card)) (sym is) (card, made, ap (λ n. symmetry n card) same)
+    (docket : List ℕ) (line : Line) (p place q : ℕ) (entry : Entry) (card : Card) → entry_for docket line ≡ entry → line ≡ Symmetry p place →
+    q ≡ p → Makes (pairs_at docket place) card → Claims entry (symmetry q card)
+claims_symmetry docket line p place q entry card e is same made =
+    subst (λ x. Claims x (symmetry q card)) e (subst (λ x. Claims (entry_for docket x) (symmetry q card)) (sym is) (card, made, ap (λ n. symmetry n card) same))
 
 pub ends_within :
     (docket : List ℕ) (at : ℕ) (line : Line) (n : ℕ) → ((k : ℕ) → get_or docket k 0 < 256) → Hold (line_checks docket at) → entry_for docket line ≡ entry_at docket at →

@@ -25,7 +25,7 @@ pub trait Change {
 
 // Writes the changed formula of a text, or the line that reports the text's first fault; answers how long that is. A buffer of 90,127 bytes
 // is long enough for every text.
-#[tactic(auto, using(crate::proofs::Outcomes::said_formula, crate::proofs::Outcomes::read_within, crate::proofs::Outcomes::said_refusal))]
+#[tactic(auto, using(crate::proofs::Outcomes::formula_is_said, crate::proofs::Outcomes::read_within, crate::proofs::Outcomes::refusal_is_said))]
 pub fn write_changed<C: Change>(
     text: &[u8],
     literals: &mut [u16],
